@@ -1,0 +1,4 @@
+pub mod Joins
+pub mod Numbers
+pub mod TwelveBits
+pub mod WordBytes

@@ -1,0 +1,137 @@
+-- The law of 12-bit numbers, for either order.
+-- Assumes nothing.
+use mathlib.Core.Path.{_≡_, refl, sym, ap, _∙_}
+use mathlib.Core.Bool.{Bool, true, false, not}
+use mathlib.Core.List.{List}
+use Prim.Native.Nat.{ℕ, zero, suc, _+_, _*_, _/_, _%_, _^_, _<_, _≤_}
+use native.Mathlib.Nat.{add-zero, mul-comm}
+use native.Mathlib.Omega.{arith}
+use lib.Dec.{eqb, leb}
+use lib.ListN.{length, getD}
+use borrow.Author.Tests.{eqb-true, eqb-false, eq-eqb, ne-eqb, leb-true, le-leb, lt-leb, not-true, not-false}
+use Rattle.bits.specs.Numbers.{Order, least, most, bit, join, number, twelve, twelveIn}
+use Rattle.bits.specs.Twelve.{Bytes, front, back, fromBytes, PartsOf, Twelve}
+use Rattle.bits.proofs.Joins.{join-same, join-below}
+use Rattle.bits.proofs.Numbers.{below, own, split, number-front, number-back, number-byte, one-more}
+
+module _ (o : Order) (b : List ℕ) (h : ℕ) where
+  pub even : getD b (3 * h) 0 < 256 → getD b (3 * h + 1) 0 < 256
+      → number o b (24 * h) 12 ≡ join o 8 (getD b (3 * h) 0) 4 (front o (getD b (3 * h + 1) 0))
+  even x y =
+      let e : 24 * h ≡ 8 * (3 * h) = omega arith in
+      let f : 8 * (3 * h) + 8 ≡ 8 * (3 * h + 1) = omega arith in
+      rw e (split o b (8 * (3 * h)) 8 4 ∙ rw (f, number-byte o b (3 * h) x, number-front o b (3 * h + 1) y))
+
+  pub odd : getD b (3 * h + 1) 0 < 256 → getD b (3 * h + 2) 0 < 256
+      → number o b (24 * h + 12) 12 ≡ join o 4 (back o (getD b (3 * h + 1) 0)) 8 (getD b (3 * h + 2) 0)
+  odd y z =
+      let e : 24 * h + 12 ≡ 8 * (3 * h + 1) + 4 = omega arith in
+      let f : 8 * (3 * h + 1) + 4 + 4 ≡ 8 * (3 * h + 2) = omega arith in
+      rw e (split o b (8 * (3 * h + 1) + 4) 4 8 ∙ rw (f, number-back o b (3 * h + 1) y, number-byte o b (3 * h + 2) z))
+
+-- what the number at place k is
+pub is : (o : Order) (b : List ℕ) (k : ℕ) → Bytes b → twelve o b k ≡ fromBytes o b k
+unfolding fromBytes
+is o b k bytes = go (eqb (k % 2) 0) refl
+  where
+    go : (t : Bool) → eqb (k % 2) 0 ≡ t → twelve o b k ≡ fromBytes o b k
+    go true t =
+        let e : 12 * k ≡ 24 * (k / 2) = omega (arith, eqb-true (k % 2) 0 t) in
+        rw (e, t, mul-comm (k / 2) 3) (even o b (k / 2) (bytes _) (bytes _))
+    go false t =
+        let e : 12 * k ≡ 24 * (k / 2) + 12 = omega (arith, eqb-false (k % 2) 0 t) in
+        rw (e, t, mul-comm (k / 2) 3) (odd o b (k / 2) (bytes _) (bytes _))
+
+-- three bytes as one number
+bytes-of : (o : Order) (b : List ℕ) (h : ℕ) → Bytes b
+    → number o b (8 * h) 24 ≡ join o 16 (join o 8 (getD b h 0) 8 (getD b (h + 1) 0)) 8 (getD b (h + 2) 0)
+bytes-of o b h bytes = one-more o b h 2 (bytes _) ∙ rw (one-more o b h 1 (bytes _), number-byte o b h (bytes _))
+
+-- two numbers as one
+pair-of : (o : Order) (b : List ℕ) (h : ℕ) → number o b (8 * (3 * h)) 24 ≡ join o 12 (twelve o b (2 * h)) 12 (twelve o b (2 * h + 1))
+pair-of o b h =
+    let e : 8 * (3 * h) ≡ 12 * (2 * h) = omega arith in
+    let f : 12 * (2 * h) + 12 ≡ 12 * (2 * h + 1) = omega arith in
+    rw e (split o b (12 * (2 * h)) 12 12 ∙ rw f)
+
+-- two numbers determine their three bytes
+pub three : (o : Order) (b b′ : List ℕ) (h : ℕ) → Bytes b → Bytes b′
+    → twelve o b (2 * h) ≡ twelve o b′ (2 * h) → twelve o b (2 * h + 1) ≡ twelve o b′ (2 * h + 1)
+    → (j : ℕ) → j < 3 → getD b (3 * h + j) 0 ≡ getD b′ (3 * h + j) 0
+three o b b′ h bytes bytes′ p q = place
+  where
+    g : ℕ
+    g = 3 * h
+
+    e : join o 16 (join o 8 (getD b g 0) 8 (getD b (g + 1) 0)) 8 (getD b (g + 2) 0) ≡ join o 16 (join o 8 (getD b′ g 0) 8 (getD b′ (g + 1) 0)) 8 (getD b′ (g + 2) 0)
+    e = sym (bytes-of o b g bytes) ∙ pair-of o b h ∙ rw (p, q) (sym (pair-of o b′ h)) ∙ bytes-of o b′ g bytes′
+
+    last : (join o 8 (getD b g 0) 8 (getD b (g + 1) 0) ≡ join o 8 (getD b′ g 0) 8 (getD b′ (g + 1) 0)) × (getD b (g + 2) 0 ≡ getD b′ (g + 2) 0)
+    last = join-same o 16 8 _ _ _ _ (join-below o 8 8 _ _ (bytes g) (bytes (g + 1))) (bytes (g + 2)) (join-below o 8 8 _ _ (bytes′ g) (bytes′ (g + 1))) (bytes′ (g + 2)) e
+
+    firsts : (getD b g 0 ≡ getD b′ g 0) × (getD b (g + 1) 0 ≡ getD b′ (g + 1) 0)
+    firsts = join-same o 8 8 _ _ _ _ (bytes g) (bytes (g + 1)) (bytes′ g) (bytes′ (g + 1)) (last .0)
+
+    place : (j : ℕ) → j < 3 → getD b (g + j) 0 ≡ getD b′ (g + j) 0
+    place zero k = rw (add-zero g) (firsts .0)
+    place (suc zero) k = firsts .1
+    place (suc (suc zero)) k = last .1
+    place (suc (suc (suc j))) k = absurd (omega arith)
+
+pub law : (o : Order) (b : List ℕ) (k : ℕ) → Bytes b → Twelve o b k
+law o b k bytes = record {
+  is = is o b k bytes;
+  small = below o b (12 * k) 12;
+  own = λ b′ h. own o b b′ (12 * k) (12 * k) 12 h;
+  three = λ b′ bytes′ p q. three o b b′ k bytes bytes′ p q;
+}
+
+-- What `bytes_of` asks, from its test t that the number lies wholly in the bytes.
+module _ (b : List ℕ) (k : ℕ) (t : Bool) (told : t ≡ leb (12 * k + 12) (8 * length b)) where
+  pub room : not t ≡ false → 12 * k + 12 ≤ 8 * length b
+  room h = leb-true (12 * k + 12) (8 * length b) (sym told ∙ not-false t h)
+
+  pub no-parts : not t ≡ true → PartsOf b k 0 0
+  no-parts h = let e = sym told ∙ not-true t h in record { own = rw e; with-next = rw e; byte = omega arith; byte-too = omega arith }
+
+  pub both-parts : not t ≡ false → (x y : ℕ) → x ≡ getD b (k / 2 * 3 + k % 2 * 2) 0 → x < 256 → y ≡ getD b (k / 2 * 3 + 1) 0 → y < 256 → PartsOf b k x y
+  both-parts h x y e l f m = let i = sym told ∙ not-false t h in record { own = rw i e; with-next = rw i f; byte = l; byte-too = m }
+
+nothing-even : (o : Order) → join o 8 0 4 (front o 0) ≡ 0
+unfolding join front
+nothing-even least = refl
+nothing-even most = refl
+
+nothing-odd : (o : Order) → join o 4 (back o 0) 8 0 ≡ 0
+unfolding join back
+nothing-odd least = refl
+nothing-odd most = refl
+
+-- The number from its two bytes, at an even and at an odd place.
+module _ (o : Order) (b : List ℕ) (k w s : ℕ) (bytes : Bytes b) (p : PartsOf b k w s) where
+  pub at-even : k % 2 ≡ 0 → join o 8 w 4 (front o s) ≡ twelveIn o b k
+  unfolding fromBytes
+  at-even e = go (leb (12 * k + 12) (8 * length b)) refl
+    where
+      go : (t : Bool) → leb (12 * k + 12) (8 * length b) ≡ t → join o 8 w 4 (front o s) ≡ twelveIn o b k
+      go true t = rw (p .own, p .with-next, t, law o b k bytes .is, eq-eqb (k % 2) 0 e, e, add-zero (k / 2 * 3))
+      go false t = rw (p .own, p .with-next, t) (nothing-even o)
+
+  pub at-odd : (k % 2 ≡ 0 → ⊥) → join o 4 (back o s) 8 w ≡ twelveIn o b k
+  unfolding fromBytes
+  at-odd e = go (leb (12 * k + 12) (8 * length b)) refl
+    where
+      one : k % 2 ≡ 1
+      one = omega (arith, e)
+
+      go : (t : Bool) → leb (12 * k + 12) (8 * length b) ≡ t → join o 4 (back o s) 8 w ≡ twelveIn o b k
+      go true t = rw (p .own, p .with-next, t, law o b k bytes .is, ne-eqb (k % 2) 0 e, one)
+      go false t = rw (p .own, p .with-next, t) (nothing-odd o)
+
+-- the last byte and a half, of bytes that are not a whole number of threes
+pub third : (n k : ℕ) → n / 3 ≡ k / 2 → k % 2 ≡ 0 → eqb (n % 3) 2 ≡ leb (12 * k + 12) (8 * n)
+third n k e h = go (eqb (n % 3) 2) refl
+  where
+    go : (t : Bool) → eqb (n % 3) 2 ≡ t → t ≡ leb (12 * k + 12) (8 * n)
+    go true t = sym (le-leb (12 * k + 12) (8 * n) (omega (arith, eqb-true (n % 3) 2 t)))
+    go false t = sym (lt-leb (12 * k + 12) (8 * n) (omega (arith, eqb-false (n % 3) 2 t)))

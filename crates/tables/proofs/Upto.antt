@@ -1,0 +1,36 @@
+-- A rule at every number below n, proved by one test that is computed.
+-- Assumes nothing.
+use mathlib.Core.Path.{_≡_, subst}
+use mathlib.Core.Bool.{Bool, true, false}
+use Prim.Native.Nat.{ℕ, zero, suc, _<_}
+use native.Mathlib.Omega.{arith}
+use native.Mathlib.Nat.{not-suc-le-zero}
+use native.Mathlib.Decide.{decLt}
+use lib.Dec.{T}
+
+unfoldable pub both : Bool → Bool → Bool
+both true b = b
+both false b = false
+
+pub both-left : (a b : Bool) → T (both a b) → T a
+unfolding both
+both-left true b t = tt
+both-left false b t = t
+
+pub both-right : (a b : Bool) → T (both a b) → T b
+unfolding both
+both-right true b t = t
+both-right false b t = absurd t
+
+-- the test f passes at each number below n
+abbrev pub upto : (ℕ → Bool) → ℕ → Bool
+upto f zero = true
+upto f (suc n) = both (f n) (upto f n)
+
+step : (f : ℕ → Bool) (n k : ℕ) → k < suc n → T (f n) → (k < n → T (f k)) → Dec (k < n) → T (f k)
+step f n k h t r (yes l) = r l
+step f n k h t r (no l) = let e : n ≡ k = omega arith in subst (λ (m : ℕ). T (f m)) e t
+
+pub upto-at : (f : ℕ → Bool) (n : ℕ) → T (upto f n) → (k : ℕ) → k < n → T (f k)
+upto-at f zero t k h = absurd (not-suc-le-zero h)
+upto-at f (suc n) t k h = step f n k h (both-left (f n) (upto f n) t) (λ l. upto-at f n (both-right (f n) (upto f n) t) k l) (decLt k n)

@@ -1,0 +1,103 @@
+/* Lunar Prospector MAG/ER: the functions of the static library that
+ * `rt staticlib capi` writes (target/staticlib/libcapi.a, x86-64 Linux).
+ *
+ * A slice is a pointer and then a number of elements. A pointer may be null
+ * only with 0 elements. No function keeps a pointer. Lent rooms must not
+ * overlap any other argument. Every function answers for every input.
+ *
+ * Papers: "01" is the rules for what is built, "000" the instrument's telemetry
+ * format, "002" the archive label.
+ */
+#ifndef LPMAG_H
+#define LPMAG_H
+
+#include <stddef.h>
+#include <stdint.h>
+
+#ifdef __cplusplus
+extern "C" {
+#endif
+
+/* Sizes, in bytes unless said otherwise. */
+#define LPMAG_RECORD 472    /* one record of the merged file */
+#define LPMAG_PACKET 168    /* the MAG/ER packet in it */
+#define LPMAG_PACKET_AT 286 /* where the packet stands in the record */
+#define LPMAG_MAG 82        /* the MAG bytes of a packet */
+#define LPMAG_MAG_AT 3      /* where they stand in the packet */
+#define LPMAG_SAMPLES 54    /* numbers: 18 vectors of x, y, z */
+#define LPMAG_FIELDS 28     /* the room of lpmag_fields */
+
+/* Kinds that are no real-time type (0 to 35). */
+#define LPMAG_OTHER 64     /* types 36-57, 62, 63 */
+#define LPMAG_UNDEFINED 65 /* types 58-61 */
+
+/* ---- numbers in bytes ------------------------------------------------- */
+
+/* The number of 2, 3 or 4 bytes from place `at`, most significant byte first;
+ * 0 unless it lies wholly in the bytes. */
+uint16_t lpmag_word16(const uint8_t *bytes, size_t length, size_t at);
+uint32_t lpmag_word24(const uint8_t *bytes, size_t length, size_t at);
+uint32_t lpmag_word32(const uint8_t *bytes, size_t length, size_t at);
+
+/* The 12-bit number at place k (bits 12k to 12k + 11); 0 unless it lies wholly
+ * in the bytes. Least significant bit first, as 000 section 2.2 packs the MAG
+ * samples, or most significant bit first. */
+uint16_t lpmag_twelve_least(const uint8_t *bytes, size_t length, size_t k);
+uint16_t lpmag_twelve_most(const uint8_t *bytes, size_t length, size_t k);
+
+/* ---- the record ------------------------------------------------------- */
+
+/* 0 when the record passes rules 2 to 11 of 01, else the number of the first
+ * rule that fails. */
+uint8_t lpmag_check(const uint8_t *record, size_t length);
+
+/* The fields of a record, into a room of LPMAG_FIELDS bytes. Answers 1 when
+ * the room is of another size, else what lpmag_check answers. The room changes
+ * only when the answer is 0; then, most significant byte first:
+ *    0-3  clock count
+ *    4-5  day of year
+ *    6-9  millisecond of day
+ *  10-12  the three flags, 1 or 2 each
+ *     13  the type byte (frame code)
+ *     14  the type, its low six bits
+ *     15  the kind: 0 to 35 for a real-time frame of that type, LPMAG_OTHER
+ *  16-17  the subcom word
+ *     18  1 when the signal level is finite, else 0
+ *  19-22  the signal level's 32 bits (IEEE single)
+ *     23  1 when the signal quality is finite, else 0
+ *  24-27  the signal quality's 32 bits */
+uint8_t lpmag_fields(const uint8_t *record, size_t length, uint8_t *room, size_t room_length);
+
+/* The 168-byte packet of a record, into a room of LPMAG_PACKET bytes. Answers
+ * as lpmag_fields does; the room changes only when the answer is 0. (Where the
+ * answer of lpmag_check is 0 the packet also stands at record +
+ * LPMAG_PACKET_AT; no copy is needed to read it there.) */
+uint8_t lpmag_packet(const uint8_t *record, size_t length, uint8_t *room, size_t room_length);
+
+/* The kind of a packet's frame: 0 to 35 for a real-time frame of that type,
+ * LPMAG_OTHER or LPMAG_UNDEFINED; LPMAG_UNDEFINED too for a packet that isn't
+ * LPMAG_PACKET bytes. */
+uint8_t lpmag_kind(const uint8_t *packet, size_t length);
+
+/* ---- the magnetometer ------------------------------------------------- */
+
+/* The range 0 to 7 of LPMAG_MAG bytes; 8, "no such place", for any other
+ * number of bytes. */
+uint8_t lpmag_range(const uint8_t *mag, size_t length);
+
+/* The 54 samples of LPMAG_MAG bytes, -2,048 to 2,047, into a room of
+ * LPMAG_SAMPLES numbers: vector by vector, x, y, z. Answers the range; 8, "no
+ * such place", when either size is another, and then the room stays as found. */
+uint8_t lpmag_samples(const uint8_t *mag, size_t length, int16_t *room, size_t room_length);
+
+/* The nominal field in nT of a sample at a range, exact: 512 times it equals
+ * the sample times 4 to the power of the range; sample 0 gives plus zero.
+ * Answers 0; or 8, "no such place", for a range above 7 or a sample outside
+ * -2,048 to 2,047, and then the number lent stays as found. */
+uint8_t lpmag_field(int16_t sample, uint8_t range, float *field);
+
+#ifdef __cplusplus
+}
+#endif
+
+#endif
