@@ -1,0 +1,4 @@
+pub mod Columns
+pub mod Order
+pub mod Opened
+pub mod Kept

@@ -1,0 +1,63 @@
+-- What a verdict says of the record: its size, its contents, its packet.
+-- Assumes nothing.
+use mathlib.Core.Path.{_≡_, refl, sym, ap, _∙_}
+use mathlib.Core.Bool.{Bool, true, false}
+use mathlib.Core.List.{List, []}
+use Prim.Native.Nat.{ℕ, _+_, _*_, _<_, _≤_}
+use native.Mathlib.Omega.{arith}
+use lib.Dec.{eqb}
+use lib.ListN.{length, take, drop, length-take, length-drop}
+use borrow.Author.Tests.{eqb-true, eq-eqb, ne-eqb, le-leb}
+use Rattle.bits.specs.Numbers.{wordIn}
+use Rattle.tables.specs.Pick.{pick}
+use Rattle.record.specs.Layout.{size, packetSize, packetBytes, bytesAt}
+use Rattle.record.specs.Rules.{rules, firstBroken, broken, sizeHolds, verdictOf}
+use Rattle.record.specs.Contents.{recordOf, contentsOf, numberOf, ContentsIs, packetOf}
+use Rattle.record.specs.declared.Record.{Record}
+use Rattle.record.specs.declared.rules.Verdict.{Verdict}
+use Rattle.record.specs.declared.rules.Verdict.the-variants.{Passes, Refused}
+use Rattle.record.specs.declared.values.Contents.the-variants as contents
+use Rattle.record.proofs.Order.{passes-zero, refused-is}
+
+not-two : (t : Bool) (n : ℕ) → pick t n 2 ≡ 0 → t ≡ true
+not-two true n e = refl
+not-two false n e = absurd (omega arith)
+
+module _ (r : List ℕ) where
+  -- a record that passes has its size
+  pub sized : broken r ≡ 0 → length r ≡ size
+  unfolding rules firstBroken broken sizeHolds
+  sized e = eqb-true (length r) size (not-two (eqb (length r) size) _ e)
+
+  -- the packet's own size, and a word in it
+  pub packet-word : length r ≡ size → (at n : ℕ) → at + n ≤ packetSize → wordIn (packetBytes r) at n ≡ bytesAt (packetBytes r) at n
+  packet-word h at n k =
+      let l : length (packetBytes r) ≡ packetSize = simp (length-take, length-drop) (omega arith) in
+      rw (le-leb (8 * at + 8 * n) (8 * length (packetBytes r)) (omega arith))
+
+  module _ (v : Verdict) (is : v ≡ verdictOf (broken r)) where
+    pub passed : v ≡ Passes → broken r ≡ 0
+    passed e = passes-zero r (broken r) (sym is ∙ e)
+
+    pub with-fields : v ≡ Passes → (x : Record) → x ≡ recordOf r → ContentsIs r (contents.Fields x)
+    unfolding contentsOf numberOf
+    with-fields e x f = let z = passed e in record { is = rw (eq-eqb (broken r) 0 z, f); number = sym z }
+
+    pub with-packet : v ≡ Passes → packetBytes r ≡ packetOf r
+    unfolding packetOf
+    with-packet e = rw (eq-eqb (broken r) 0 (passed e))
+
+    module _ (n : ℕ) (e : v ≡ Refused n) where
+      broken-is : broken r ≡ n
+      broken-is = refused-is r (broken r) n (sym is ∙ e) .0
+
+      fails : eqb (broken r) 0 ≡ false
+      fails = ne-eqb (broken r) 0 (λ z. omega (arith, refused-is r (broken r) n (sym is ∙ e) .1))
+
+      pub without-fields : ContentsIs r (contents.Refused n)
+      unfolding contentsOf numberOf
+      without-fields = record { is = rw (fails, broken-is); number = sym broken-is }
+
+      pub without-packet : [] ≡ packetOf r
+      unfolding packetOf
+      without-packet = rw fails

@@ -1,0 +1,57 @@
+-- `record::rules::type_holds` meets its contract.
+-- Assumes nothing.
+use mathlib.Core.Path.{sym, ap, _∙_}
+use Rattle.record.specs.Frame.{defined}
+use Rattle.record.specs.Rules.{typeHolds}
+use native.Mathlib.Omega.{arith}
+use borrow.Author.Needs.{needs}
+use Rattle.record.proofs.rules.type_holds.Statement.{statement}
+use Rattle.record.proofs.rules.type_holds.Tie as tie
+
+sub-kind-of : tie.Need-sub-kind-of
+sub-kind-of c = search needs
+
+part-kind-of-start : tie.Need-part-kind-of-start
+part-kind-of-start c = search needs
+
+part-kind-of-end : tie.Need-part-kind-of-end
+part-kind-of-end c = search needs
+
+kind-of-requires : tie.Need-kind-of-requires
+kind-of-requires c κs = search needs
+
+enum-told : tie.Need-enum-told
+enum-told c = search needs
+
+enum-told-2 : tie.Need-enum-told-2
+enum-told-2 c = search needs
+
+enum-told-3 : tie.Need-enum-told-3
+enum-told-3 c = search needs
+
+returns : tie.Need-returns
+unfolding typeHolds defined
+returns c = sym (ap defined (sym (c .before .before .kind-of .ensures) ∙ c .enum-told .given .1))
+
+returns-2 : tie.Need-returns-2
+unfolding typeHolds defined
+returns-2 c = sym (ap defined (sym (c .before .before .kind-of .ensures) ∙ c .enum-told2 .given .1))
+
+returns-3 : tie.Need-returns-3
+unfolding typeHolds defined
+returns-3 c = sym (ap defined (sym (c .before .before .kind-of .ensures) ∙ c .enum-told3 .given .1))
+
+pub type-holds-spec : {M : Type 1} → statement M
+type-holds-spec =
+    tie.close
+    (tie.spec
+    sub-kind-of
+    part-kind-of-start
+    part-kind-of-end
+    kind-of-requires
+    enum-told
+    enum-told-2
+    enum-told-3
+    returns
+    returns-2
+    returns-3)

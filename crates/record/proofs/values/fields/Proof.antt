@@ -1,0 +1,31 @@
+-- `record::values::fields` meets its contract.
+-- Assumes nothing.
+use denote.Ref.{now}
+use Rattle.record.proofs.Opened.{sized, passed, with-fields, without-fields}
+use native.Mathlib.Omega.{arith}
+use borrow.Author.Needs.{needs}
+use Rattle.record.proofs.values.fields.Statement.{statement}
+use Rattle.record.proofs.values.fields.Tie as tie
+
+check-requires : tie.Need-check-requires
+check-requires c κs = search needs
+
+enum-told : tie.Need-enum-told
+enum-told c = search needs
+
+record-of-requires : tie.Need-record-of-requires
+record-of-requires c κs = let r = now (c .before .before .before .before .args .r) in let k = c .before .before .check in sized r (passed r (k .result) (k .ensures .is) (c .enum-told .given .1))
+
+enum-known-verdict : tie.Need-enum-known-verdict
+enum-known-verdict c = search needs
+
+returns : tie.Need-returns
+returns c = let k = c .before .before .before .check in with-fields (now (c .before .before .before .before .before .args .r)) (k .result) (k .ensures .is) (c .before .enum-told .given .1) (c .record-of .result) (c .record-of .ensures)
+
+returns-2 : tie.Need-returns-2
+returns-2 c = let k = c .before .before .before .check in without-fields (now (c .before .before .before .before .before .args .r)) (k .result) (k .ensures .is) _ (c .before .verdict .given .1)
+
+pub fields-spec : {M : Type 1} → statement M
+fields-spec =
+    tie.close
+    (tie.spec check-requires enum-told record-of-requires enum-known-verdict returns returns-2)

@@ -1,0 +1,51 @@
+-- The fields of a record that passes, and the packet part (01, "The record", "The packet").
+-- Assumes nothing.
+use Prim.Native.Nat.{ℕ}
+use mathlib.Core.List.{List, []}
+use mathlib.Core.Path.{_≡_}
+use lib.Dec.{eqb}
+use Rattle.tables.specs.Pick.{pick}
+use Rattle.record.specs.Layout.{count, packetBytes, day, millisecond, level, quality, firstFlag, secondFlag, thirdFlag, frameCode, frameType, subcom}
+use Rattle.record.specs.Frame.{kindOf}
+use Rattle.record.specs.Signal.{levelOf}
+use Rattle.record.specs.Rules.{broken}
+use Rattle.record.specs.declared.Record.{Record}
+use Rattle.record.specs.declared.signal.Reading.{Reading}
+use Rattle.record.specs.declared.values.Contents.{Contents}
+use Rattle.record.specs.declared.values.Contents.the-variants.{Fields, Refused}
+
+-- "Signal level and quality travel together as one reading"
+abbrev pub readingOf : List ℕ → Reading
+readingOf r = record { level = levelOf (level r); quality = levelOf (quality r) }
+
+unfoldable pub recordOf : List ℕ → Record
+recordOf r = record {
+  count = count r;
+  day = day r;
+  millisecond = millisecond r;
+  «first_flag» = firstFlag r;
+  «second_flag» = secondFlag r;
+  «third_flag» = thirdFlag r;
+  «frame_code» = frameCode (packetBytes r);
+  «frame_type» = frameType (packetBytes r);
+  kind = kindOf (packetBytes r);
+  subcom = subcom (packetBytes r);
+  reading = readingOf r;
+}
+
+-- the fields of a record that passes rules 2 to 11; else the rule's number and no fields
+unfoldable pub contentsOf : List ℕ → Contents
+contentsOf r = pick (eqb (broken r) 0) (Fields (recordOf r)) (Refused (broken r))
+
+-- 01's number of each case
+unfoldable pub numberOf : Contents → ℕ
+numberOf (Fields f) = 0
+numberOf (Refused n) = n
+
+pub record ContentsIs (r : List ℕ) (c : Contents) : Type 0 where
+  pub is : c ≡ contentsOf r
+  pub number : numberOf c ≡ broken r
+
+-- the caller's own bytes 286 to 453, or none
+unfoldable pub packetOf : List ℕ → List ℕ
+packetOf r = pick (eqb (broken r) 0) (packetBytes r) []

@@ -1,0 +1,82 @@
+-- Where things stand in the record (01, "The record"; the label, 002) and in the packet (000, section 2).
+-- Assumes nothing.
+use Prim.Native.Nat.{ℕ, _+_, _*_, _%_}
+use mathlib.Core.List.{List}
+use lib.ListN.{getD, take, drop}
+use Rattle.bits.specs.Numbers.{most, number}
+
+-- bytes in a record (002: RECORD_BYTES = 472) and in a packet
+abbrev pub size : ℕ
+size = 472
+
+abbrev pub packetSize : ℕ
+packetSize = 168
+
+-- the packet's first byte (002: START_BYTE = 287, counted from 1)
+abbrev pub packetAt : ℕ
+packetAt = 286
+
+-- n bits from bit j of byte k: the label's "START_BIT", counted from 0, in a column that starts at byte k
+abbrev pub bitsAt : List ℕ → ℕ → ℕ → ℕ → ℕ
+bitsAt r k j n = number most r (8 * k + j) n
+
+-- n whole bytes from byte k
+abbrev pub bytesAt : List ℕ → ℕ → ℕ → ℕ
+bytesAt r k n = number most r (8 * k) (8 * n)
+
+-- the columns of the label
+abbrev pub sync : List ℕ → ℕ
+sync r = bytesAt r 0 4
+
+abbrev pub version : List ℕ → ℕ
+version r = bitsAt r 4 0 2
+
+abbrev pub spacecraft : List ℕ → ℕ
+spacecraft r = bitsAt r 4 2 8
+
+abbrev pub rate : List ℕ → ℕ
+rate r = bitsAt r 4 10 6
+
+abbrev pub count : List ℕ → ℕ
+count r = bytesAt r 6 3
+
+abbrev pub spare : List ℕ → ℕ
+spare r = bytesAt r 9 1
+
+abbrev pub packetBytes : List ℕ → List ℕ
+packetBytes r = take packetSize (drop packetAt r)
+
+abbrev pub day : List ℕ → ℕ
+day r = bytesAt r 456 2
+
+abbrev pub millisecond : List ℕ → ℕ
+millisecond r = bytesAt r 458 4
+
+abbrev pub level : List ℕ → ℕ
+level r = bytesAt r 462 4
+
+abbrev pub quality : List ℕ → ℕ
+quality r = bytesAt r 466 4
+
+abbrev pub statusSpare : List ℕ → ℕ
+statusSpare r = bitsAt r 470 0 10
+
+abbrev pub firstFlag : List ℕ → ℕ
+firstFlag r = bitsAt r 470 10 2
+
+abbrev pub secondFlag : List ℕ → ℕ
+secondFlag r = bitsAt r 470 12 2
+
+abbrev pub thirdFlag : List ℕ → ℕ
+thirdFlag r = bitsAt r 470 14 2
+
+-- the packet's first three bytes: the Frame Code, then the Digital Subcom word (000, section 2), high byte first (01)
+abbrev pub frameCode : List ℕ → ℕ
+frameCode p = getD p 0 0
+
+abbrev pub subcom : List ℕ → ℕ
+subcom p = bytesAt p 1 2
+
+-- "The 6 LSB of the Frame Code are the Frame Type" (000, section 2.1)
+abbrev pub frameType : List ℕ → ℕ
+frameType p = frameCode p % 64

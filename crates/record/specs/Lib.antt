@@ -1,0 +1,5 @@
+pub mod Layout
+pub mod Frame
+pub mod Signal
+pub mod Rules
+pub mod Contents

@@ -1,0 +1,31 @@
+// The kind of a frame, by the Frame Type in the low six bits of the Frame Code (000, section 2.1; 01, "The packet").
+ghost use mathlib.Core.Path.{_≡_};
+ghost use Rattle.record.specs.Frame.{kindOf, kindOfType};
+use crate::Record;
+
+pub enum Kind {
+    RealTime(u8),
+    Other,
+    Undefined,
+}
+
+fn kind_of_type(t: u8) -> Kind
+    ensures { λ r. ⌜ r ≡ kindOfType t ⌝ }
+{
+    match t {
+        0..=35 => Kind::RealTime(t),
+        58..=61 => Kind::Undefined,
+        _ => Kind::Other,
+    }
+}
+
+// The kind of a packet's frame. Bytes that are no packet are undefined.
+pub fn kind_of(packet: &[u8]) -> Kind
+    ensures { λ r. ⌜ r ≡ kindOf (now (packet .entry)) ⌝ }
+{
+    if packet.len() != Record::PACKET_SIZE {
+        return Kind::Undefined;
+    }
+    let t = packet[Record::CODE_AT] % 64;
+    kind_of_type(t)
+}
