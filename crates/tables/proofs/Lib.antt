@@ -1,1 +1,2 @@
 pub mod Upto
+pub mod Built

@@ -1,0 +1,40 @@
+-- The answers that the tests on the way lead to.
+-- Assumes nothing.
+use mathlib.Core.Path.{_≡_, refl}
+use mathlib.Core.Bool.{Bool, true, false, _&&_}
+use mathlib.Core.List.{List}
+use Prim.Native.Nat.{ℕ, _-_}
+use native.Mathlib.Omega.{arith}
+use lib.Dec.{eqb}
+use lib.IntN.{ℤ}
+use lib.ListN.{length, take, drop, length-drop}
+use lib.Seq.{take-all}
+use borrow.Author.Tests.{eq-eqb, ne-eqb}
+use Rattle.tables.specs.Build.{build}
+use Rattle.mag.specs.Samples.{magSize, samplesSize, range, sampleAt, rangeGiven, RangeIs, bothSized, Laid}
+use Rattle.mag.specs.declared.unpacking.Unpacked.the-variants.{Range, NoSuchPlace}
+
+pub with-range : (holds : Bool) (m : List ℕ) → holds ≡ true → RangeIs holds m (Range (range m))
+unfolding rangeGiven
+with-range holds m e = record { is = rw e; given = rw e }
+
+pub no-range : (holds : Bool) (m : List ℕ) → holds ≡ false → RangeIs holds m NoSuchPlace
+unfolding rangeGiven
+no-range holds m e = record { is = rw e; given = rw e }
+
+module _ (m : List ℕ) (s : List ℤ) where
+  none-laid : bothSized m s ≡ false → Laid m s NoSuchPlace s
+  none-laid e = record { answer = no-range (bothSized m s) m e; room = rw e }
+
+  pub mag-off : (length m ≡ magSize → ⊥) → Laid m s NoSuchPlace s
+  mag-off h = none-laid (rw (ne-eqb (length m) magSize h))
+
+  pub room-off : length m ≡ magSize → (length s ≡ samplesSize → ⊥) → Laid m s NoSuchPlace s
+  room-off h k = none-laid (rw (eq-eqb (length m) magSize h, ne-eqb (length s) samplesSize k))
+
+  -- the bytes after the first are lent as a part
+  pub all-laid : length m ≡ magSize → length s ≡ samplesSize → (s′ : List ℤ) → s′ ≡ build (sampleAt (take (length m - 1) (drop 1 m))) samplesSize → Laid m s (Range (range m)) s′
+  all-laid h k s′ e =
+      let t : bothSized m s ≡ true = rw (eq-eqb (length m) magSize h, eq-eqb (length s) samplesSize k) in
+      let p : take (length m - 1) (drop 1 m) ≡ drop 1 m = take-all (length m - 1) (drop 1 m) (simp length-drop (omega arith)) in
+      record { answer = with-range (bothSized m s) m t; room = rw t (rw p at e) }
