@@ -1,13 +1,31 @@
--- The 32 bits of a finite single are kept by reading and writing them.
+-- The 32 bits of a level: kept by reading and writing them, and those of no number.
 -- Assumes nothing.
-use mathlib.Core.Path.{_≡_, subst}
+use mathlib.Core.Path.{_≡_, refl, subst}
 use mathlib.Core.Bool.{Bool, true, false, not}
-use Prim.Native.Nat.{ℕ, _/_, _%_, _<_}
+use Prim.Native.Nat.{ℕ, _*_, _/_, _%_, _<_}
 use native.Mathlib.Omega.{arith}
-use borrow.Author.Tests.{ne-eqb}
+use borrow.Author.Tests.{eq-eqb, ne-eqb}
 use lib.Dec.{T, eqb}
-use lib.Ieee.{binary32, ofBits, toBits, nanBits, isNan}
+use lib.Ieee.{Float, nan, inf, fin, up, down, level, eq, binary32, ofBits, toBits, nanBits, isNan}
 use lib.Ieee.Bits.{toBits-ofBits, nanBits-is}
+
+-- a float is equal to itself exactly when it is a number
+pub equal-number : (x : Float) → eq x x ≡ true → T (not (isNan x))
+unfolding eq isNan
+equal-number nan e = let n : _≡_ {A = ℕ} 0 1 = cc in absurd (omega arith)
+equal-number (inf s) e = tt
+equal-number (fin s m e) h = tt
+
+same-size : (s : Bool) (n : ℕ) → level s n s n ≡ true
+same-size true n = rw (eq-eqb n n refl)
+same-size false n = rw (eq-eqb n n refl)
+
+pub unequal-bits : (x : Float) → eq x x ≡ false → 2143289344 ≡ toBits binary32 x
+unfolding eq toBits
+unequal-bits nan e = refl
+unequal-bits (inf true) e = let n : _≡_ {A = ℕ} 0 1 = cc in absurd (omega arith)
+unequal-bits (inf false) e = let n : _≡_ {A = ℕ} 0 1 = cc in absurd (omega arith)
+unequal-bits (fin s m e) h = let n : _≡_ {A = ℕ} 0 1 = cc (same-size s (m * up e * down e)) in absurd (omega arith)
 
 module _ (b : ℕ) where
   pub not-nan : (b / 8388608 % 256 ≡ 255 → ⊥) → T (not (nanBits binary32 b))

@@ -2,3 +2,4 @@ pub mod Columns
 pub mod Order
 pub mod Opened
 pub mod Kept
+pub mod Types

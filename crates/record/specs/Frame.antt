@@ -1,8 +1,9 @@
 -- The kind of a frame (01, "The packet").
 -- Assumes nothing.
 use Prim.Native.Nat.{ℕ}
-use mathlib.Core.Bool.{Bool, true, false, _&&_}
+use mathlib.Core.Bool.{Bool, true, false, _&&_, _||_}
 use mathlib.Core.List.{List}
+use mathlib.Core.Path.{_≡_}
 use lib.Dec.{eqb, leb}
 use lib.ListN.{length}
 use Rattle.tables.specs.Pick.{pick}
@@ -17,6 +18,17 @@ kindOfType t = pick (leb t 35) (RealTime t) (pick (leb 58 t && leb t 61) Undefin
 -- the kind of a packet's frame; bytes that are no packet are undefined
 unfoldable pub kindOf : List ℕ → Kind
 kindOf p = pick (eqb (length p) packetSize) (kindOfType (frameType p)) Undefined
+
+-- the types of each kind, in 01's numbers
+unfoldable pub typesOf : Kind → ℕ → Bool
+typesOf (RealTime t) u = eqb u t && leb u 35
+typesOf Other u = (leb 36 u && leb u 57) || (eqb u 62 || eqb u 63)
+typesOf Undefined u = leb 58 u && leb u 61
+
+-- one kind for a packet, and its type is among the kind's
+pub record KindIs (p : List ℕ) (k : Kind) : Type 0 where
+  pub is : k ≡ kindOf p
+  pub typed : length p ≡ packetSize → typesOf k (frameType p) ≡ true
 
 unfoldable pub defined : Kind → Bool
 defined (RealTime t) = true

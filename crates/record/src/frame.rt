@@ -1,6 +1,6 @@
 // The kind of a frame, by the Frame Type in the low six bits of the Frame Code (000, section 2.1; 01, "The packet").
 ghost use mathlib.Core.Path.{_≡_};
-ghost use Rattle.record.specs.Frame.{kindOf, kindOfType};
+ghost use Rattle.record.specs.Frame.{kindOfType, KindIs};
 use crate::Record;
 
 pub enum Kind {
@@ -21,7 +21,7 @@ fn kind_of_type(t: u8) -> Kind
 
 // The kind of a packet's frame. Bytes that are no packet are undefined.
 pub fn kind_of(packet: &[u8]) -> Kind
-    ensures { λ r. ⌜ r ≡ kindOf (now (packet .entry)) ⌝ }
+    ensures { λ r. ⌜ KindIs (now (packet .entry)) r ⌝ }
 {
     if packet.len() != Record::PACKET_SIZE {
         return Kind::Undefined;

@@ -13,6 +13,7 @@ pub use rules::Verdict;
 pub use rules::check;
 pub use signal::Level;
 pub use signal::Reading;
+pub use signal::bits_of;
 pub use signal::level_of;
 pub use values::Contents;
 pub use values::fields;

@@ -1,5 +1,6 @@
 // Signal level and signal quality, IEEE single precision: a finite reading, or the 32 bits of one that isn't.
-ghost use Rattle.record.specs.Signal.{LevelIs};
+ghost use mathlib.Core.Path.{_≡_};
+ghost use Rattle.record.specs.Signal.{LevelIs, bitsOf};
 
 pub enum Level {
     Finite(f32),
@@ -20,5 +21,20 @@ pub fn level_of(bits: u32) -> Level
         Level::NotFinite(bits)
     } else {
         Level::Finite(f32::from_bits(bits))
+    }
+}
+
+// The 32 bits of a level. A `Finite` that holds no number, which `level_of` never gives, has the bits 7FC00000.
+pub fn bits_of(level: Level) -> u32
+    ensures { λ r. ⌜ r ≡ bitsOf level ⌝ }
+{
+    match level {
+        Level::Finite(x) => {
+            if x == x {
+                return f32::to_bits(x);
+            }
+            0x7fc00000
+        }
+        Level::NotFinite(b) => b,
     }
 }

@@ -1,15 +1,14 @@
 -- `record::frame::kind_of` meets its contract.
 -- Assumes nothing.
-use borrow.Author.Tests.{eq-eqb, ne-eqb}
-use Rattle.record.specs.Frame.{kindOf}
+use denote.Ref.{now}
+use Rattle.record.proofs.Types.{kind-sized, kind-off}
 use native.Mathlib.Omega.{arith}
 use borrow.Author.Needs.{needs}
 use Rattle.record.proofs.frame.kind_of.Statement.{statement}
 use Rattle.record.proofs.frame.kind_of.Tie as tie
 
 returns : tie.Need-returns
-unfolding kindOf
-returns c = search (needs, eq-eqb, ne-eqb)
+returns c = kind-off (now (c .before .before .args .packet)) (c .if1 .taken)
 
 shared-slice-read-t : tie.Need-shared-slice-read-t
 shared-slice-read-t c = search needs
@@ -18,8 +17,7 @@ kind-of-type-requires : tie.Need-kind-of-type-requires
 kind-of-type-requires c κs = search needs
 
 returns-2 : tie.Need-returns-2
-unfolding kindOf
-returns-2 c = search (needs, eq-eqb, ne-eqb)
+returns-2 c = kind-sized (now (c .before .before .before .before .args .packet)) (c .before .before .if1 .left) (c .kind-of-type .result) (c .kind-of-type .ensures)
 
 pub kind-of-spec : {M : Type 1} → statement M
 kind-of-spec = tie.close (tie.spec returns shared-slice-read-t kind-of-type-requires returns-2)

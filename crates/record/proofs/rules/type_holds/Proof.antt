@@ -31,15 +31,15 @@ enum-told-3 c = search needs
 
 returns : tie.Need-returns
 unfolding typeHolds defined
-returns c = sym (ap defined (sym (c .before .before .kind-of .ensures) ∙ c .enum-told .given .1))
+returns c = sym (ap defined (sym (c .before .before .kind-of .ensures .is) ∙ c .enum-told .given .1))
 
 returns-2 : tie.Need-returns-2
 unfolding typeHolds defined
-returns-2 c = sym (ap defined (sym (c .before .before .kind-of .ensures) ∙ c .enum-told2 .given .1))
+returns-2 c = sym (ap defined (sym (c .before .before .kind-of .ensures .is) ∙ c .enum-told2 .given .1))
 
 returns-3 : tie.Need-returns-3
 unfolding typeHolds defined
-returns-3 c = sym (ap defined (sym (c .before .before .kind-of .ensures) ∙ c .enum-told3 .given .1))
+returns-3 c = sym (ap defined (sym (c .before .before .kind-of .ensures .is) ∙ c .enum-told3 .given .1))
 
 pub type-holds-spec : {M : Type 1} → statement M
 type-holds-spec =

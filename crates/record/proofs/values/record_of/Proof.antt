@@ -66,7 +66,7 @@ returns c =
       first-is r,
       second-is r,
       third-is r,
-      c .before .before .before .before .before .kind-of .ensures,
+      c .before .before .before .before .before .kind-of .ensures .is,
       c .word163 .ensures ∙ packet-word r (d .pre) 1 2 (omega arith),
       c .before .before .before .before .reading-of .ensures,
     )

@@ -1,0 +1,67 @@
+-- The kind of every type, computed once; rule 11 in 01's words.
+-- Assumes nothing.
+use mathlib.Core.Path.{_≡_, refl, sym, ap, subst, _∙_}
+use mathlib.Core.Bool.{Bool, true, false, not, _&&_}
+use mathlib.Core.List.{List}
+use Prim.Native.Nat.{ℕ, _%_, _<_}
+use native.Mathlib.Omega.{arith}
+use lib.Dec.{T, eqb, leb}
+use lib.ListN.{length, take, drop, length-take, length-drop}
+use borrow.Author.Tests.{eq-eqb, ne-eqb}
+use Rattle.tables.specs.Pick.{pick}
+use Rattle.tables.proofs.Upto.{both, both-left, both-right, upto, upto-at}
+use Rattle.record.specs.Layout.{size, packetSize, packetBytes, frameCode, frameType}
+use Rattle.record.specs.Frame.{kindOfType, kindOf, typesOf, defined, KindIs}
+use Rattle.record.specs.Rules.{typeHolds}
+use Rattle.record.specs.declared.frame.Kind.{Kind}
+use Rattle.record.specs.declared.frame.Kind.the-variants.{Undefined}
+
+same : Bool → Bool → Bool
+same true b = b
+same false b = not b
+
+same-is : (a b : Bool) → T (same a b) → a ≡ b
+unfolding same
+same-is true true t = refl
+same-is false false t = refl
+
+-- of each type: it is one of its kind's, and its kind is undefined exactly for 58 to 61
+abbrev right : ℕ → Bool
+right t = both (typesOf (kindOfType t) t) (same (defined (kindOfType t)) (not (leb 58 t && leb t 61)))
+
+every-type : T (upto right 64)
+unfolding both same typesOf kindOfType defined
+every-type = tt
+
+told : (b : Bool) → T b → b ≡ true
+told true t = refl
+
+module _ (p : List ℕ) where
+  small : frameType p < 64
+  small = omega arith
+
+  right-here : T (right (frameType p))
+  right-here = upto-at right 64 every-type (frameType p) small
+
+  typed : typesOf (kindOfType (frameType p)) (frameType p) ≡ true
+  typed = told _ (both-left (typesOf (kindOfType (frameType p)) (frameType p)) (same (defined (kindOfType (frameType p))) (not (leb 58 (frameType p) && leb (frameType p) 61))) right-here)
+
+  kind-if : length p ≡ packetSize → kindOf p ≡ kindOfType (frameType p)
+  unfolding kindOf
+  kind-if h = rw (eq-eqb (length p) packetSize h)
+
+  pub kind-sized : length p ≡ packetSize → (k : Kind) → k ≡ kindOfType (frameType p) → KindIs p k
+  kind-sized h k e = record { is = e ∙ sym (kind-if h); typed = λ l. rw e typed }
+
+  pub kind-off : (length p ≡ packetSize → ⊥) → KindIs p Undefined
+  unfolding kindOf
+  kind-off h = record { is = rw (ne-eqb (length p) packetSize h); typed = λ l. absurd (h l) }
+
+-- rule 11 fails exactly when the type is 58 to 61
+pub eleven : (r : List ℕ) → length r ≡ size → let t = frameType (packetBytes r) in typeHolds r ≡ not (leb 58 t && leb t 61)
+unfolding typeHolds
+eleven r h =
+    let p = packetBytes r in
+    let l : length p ≡ packetSize = simp (length-take, length-drop) (omega arith) in
+    rw (kind-if p l)
+    (same-is _ _ (both-right (typesOf (kindOfType (frameType p)) (frameType p)) (same (defined (kindOfType (frameType p))) (not (leb 58 (frameType p) && leb (frameType p) 61))) (right-here p)))
