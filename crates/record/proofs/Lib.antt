@@ -3,3 +3,4 @@ pub mod Order
 pub mod Opened
 pub mod Kept
 pub mod Types
+pub mod Told

@@ -1,2 +1,3 @@
 pub mod Upto
 pub mod Built
+pub mod Picks

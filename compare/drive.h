@@ -1,0 +1,82 @@
+/* The comparison of include/lpmag.h (the first implementation) with second.h.
+ * A file for each subject, drive_*.c, makes inputs and calls both; what they
+ * have in common stands here. */
+#ifndef DRIVE_H
+#define DRIVE_H
+
+#include "lend.h"
+#include "random.h"
+
+#include "../include/lpmag.h"
+#include "second.h"
+
+#include <stdbool.h>
+#include <stddef.h>
+#include <stdint.h>
+
+/* The functions compared, in the header's order. */
+enum function {
+    WORD16,
+    WORD24,
+    WORD32,
+    TWELVE_LEAST,
+    TWELVE_MOST,
+    CHECK,
+    FIELDS,
+    PACKET,
+    KIND,
+    RANGE,
+    SAMPLES,
+    FIELD,
+    FUNCTIONS
+};
+
+const char *function_name(enum function function);
+
+struct drive {
+    struct random random;
+    const char *phase; /* what is being compared */
+
+    /* What was met, for the end: a comparison that saw nothing proves nothing. */
+    uint64_t calls[FUNCTIONS];                 /* pairs of calls */
+    uint64_t kept_rooms;                       /* rooms that had to stay as found */
+    uint64_t records;                          /* through every function of a record */
+    uint64_t refusals[12];                     /* by number; 0 where a record passes */
+    uint64_t kinds[LPMAG_UNDEFINED + 1];       /* of whole packets */
+    uint64_t ranges[SECOND_NO_SUCH_PLACE + 1]; /* answered for samples */
+};
+
+/* Names what is compared next, in the output too: should an implementation break
+ * off the program, the last line tells where. */
+void begin(struct drive *drive, const char *phase);
+
+/* One question to both implementations. */
+struct question {
+    enum function function;
+    const uint8_t *bytes; /* the record, packet, MAG bytes or any bytes */
+    size_t length;
+    const char *also; /* the name of a further argument, or null */
+    uint64_t number;  /* that argument */
+};
+
+/* Counts a pair of answers; where they differ, reports it and ends the program. */
+void same_answer(struct drive *drive, const struct question *question, uint64_t first, uint64_t second);
+
+/* Compares the rooms that were lent for it, which have to be as found if `kept`. */
+void same_rooms(struct drive *drive, const struct question *question, const struct rooms *rooms, bool kept);
+
+/* What both agree on is held against what the papers, or the way the input was
+ * made, tell of it: an error that both make shows there. */
+void expect_answer(struct drive *drive, const struct question *question, uint64_t answer, uint64_t expected);
+void expect_bytes(struct drive *drive, const struct question *question, const char *what,
+                  const uint8_t *found, const uint8_t *expected, size_t length);
+
+/* The subjects. */
+void drive_words(struct drive *drive);
+void drive_record(struct drive *drive);
+void drive_mag(struct drive *drive);
+
+/* The range and the samples of MAG bytes, with a room of so many numbers. */
+void compare_mag(struct drive *drive, const uint8_t *mag, size_t length, size_t room_numbers);
+
+#endif

@@ -1,0 +1,55 @@
+/* Records made from a seed: good ones, and ones that break a rule of 01,
+ * "Numbers a refused record gets", on purpose. */
+#ifndef GENERATE_H
+#define GENERATE_H
+
+#include "random.h"
+
+#include <stddef.h>
+#include <stdint.h>
+
+/* The seed when none is given. */
+#define GENERATE_SEED 19990719
+
+/* The room a record is made in: rule 2 may make it longer than 472 bytes. */
+#define GENERATE_RECORD 472
+#define GENERATE_LONGEST 1000
+
+/* The rules a record can break. */
+#define GENERATE_FIRST_RULE 2
+#define GENERATE_LAST_RULE 11
+
+/* What a record says in the bytes that are opened. */
+struct content {
+    uint32_t count;       /* 24 bits */
+    uint16_t day;         /* of the year */
+    uint32_t millisecond; /* of the day */
+    uint8_t flags[3];     /* two bits each */
+    uint8_t code;         /* the frame code: two top bits and the type */
+    uint16_t subcom;
+    uint32_t level; /* signal level and quality, the bits of an IEEE single */
+    uint32_t quality;
+};
+
+/* Any content that passes rules 2 to 11. */
+struct content generate_content(struct random *random);
+
+/* Writes a record of GENERATE_RECORD bytes that passes rules 3 to 6, with that
+ * content and any bytes where nothing is opened. */
+void generate_record(struct random *random, const struct content *content, uint8_t *record);
+
+/* The number of forms in which a rule can be broken. */
+uint32_t spoil_forms(unsigned rule);
+
+/* Breaks one rule of a record of GENERATE_RECORD bytes, in a room of
+ * GENERATE_LONGEST, and no other: it changes only bits that no other rule looks
+ * at. (A record of another length, rule 2, is still one to break further.)
+ * Answers the record's length from then on. */
+size_t spoil_form(struct random *random, uint8_t *record, unsigned rule, uint32_t form);
+size_t spoil(struct random *random, uint8_t *record, unsigned rule);
+
+/* Writes 82 MAG bytes: the status byte and 54 numbers of 12 bits, packed as
+ * 000 section 2.2 says. */
+void generate_mag(uint8_t status, const uint16_t *numbers, uint8_t *mag);
+
+#endif

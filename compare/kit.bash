@@ -1,0 +1,16 @@
+# Sourced by the scripts beside it: where the kit's compiler, linker and emulator
+# are. They stand beside the real file of `rt`.
+
+if ! command -v rt >/dev/null; then
+    echo "compare: rt was not found; install Rattle's kit and put rt on the PATH" >&2
+    exit 1
+fi
+kit=$(dirname "$(dirname "$(readlink -f "$(command -v rt)")")")
+machine=$(uname -m)
+toolchain=$kit/on/$machine/toolchain
+link=$kit/on/$machine/bin/rattle-link
+target=x86_64-unknown-linux-gnu
+if [ ! -x "$toolchain/bin/clang" ] || [ ! -x "$link" ]; then
+    echo "compare: the kit that holds rt has no compiler or linker for this machine ($machine)" >&2
+    exit 1
+fi

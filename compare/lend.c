@@ -1,0 +1,77 @@
+#include "lend.h"
+
+#include "text.h"
+
+#include <system.h>
+
+/* No page of any machine that runs this is larger. */
+#define PAGE 65536
+
+/* The place after the last byte that can be read, before an unreadable page. */
+static uint8_t *readable_end(void)
+{
+    static uint8_t *end = NULL;
+    if (end == NULL) {
+        uint8_t *start = mmap(NULL, 2 * PAGE, PROT_READ | PROT_WRITE, MAP_PRIVATE | MAP_ANONYMOUS, -1, 0);
+        if (start == MAP_FAILED || mprotect(start + PAGE, PAGE, PROT_NONE) != 0)
+            fail(1, "no memory can be had for the bytes to be lent");
+        end = start + PAGE;
+    }
+    return end;
+}
+
+const uint8_t *lend_bytes(struct random *random, const uint8_t *bytes, size_t length)
+{
+    bool coin = random_once_in(random, 2);
+    if (length == 0)
+        return coin ? NULL : readable_end();
+    uint8_t *lent = readable_end() - length - (coin ? 0 : random_below(random, 16));
+    memcpy(lent, bytes, length);
+    return lent;
+}
+
+void rooms_make(struct rooms *rooms, struct random *random, size_t length)
+{
+    size_t whole = LEND_GUARD + length + LEND_GUARD;
+    rooms->length = length;
+    rooms->null = length == 0 && random_once_in(random, 2);
+    random_fill(random, rooms->found.bytes, whole);
+    memcpy(rooms->first.bytes, rooms->found.bytes, whole);
+    memcpy(rooms->second.bytes, rooms->found.bytes, whole);
+}
+
+uint8_t *room_of_bytes(const struct rooms *rooms, union lent *lent)
+{
+    return rooms->null ? NULL : lent->bytes + LEND_GUARD;
+}
+
+int16_t *room_of_numbers(const struct rooms *rooms, union lent *lent)
+{
+    return rooms->null ? NULL : lent->numbers + LEND_GUARD / 2;
+}
+
+static bool changed(const union lent *now, const union lent *found, size_t at, size_t length)
+{
+    return memcmp(now->bytes + at, found->bytes + at, length) != 0;
+}
+
+static bool changed_around(const struct rooms *rooms, const union lent *now)
+{
+    return changed(now, &rooms->found, 0, LEND_GUARD) ||
+           changed(now, &rooms->found, LEND_GUARD + rooms->length, LEND_GUARD);
+}
+
+const char *rooms_wrong(const struct rooms *rooms, bool kept)
+{
+    if (changed_around(rooms, &rooms->first))
+        return "the first changes bytes outside its room";
+    if (changed_around(rooms, &rooms->second))
+        return "the second changes bytes outside its room";
+    if (kept && changed(&rooms->first, &rooms->found, LEND_GUARD, rooms->length))
+        return "the first changes a room that has to stay as found";
+    if (kept && changed(&rooms->second, &rooms->found, LEND_GUARD, rooms->length))
+        return "the second changes a room that has to stay as found";
+    if (changed(&rooms->first, &rooms->second, LEND_GUARD, rooms->length))
+        return "the rooms differ";
+    return NULL;
+}

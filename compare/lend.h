@@ -1,0 +1,49 @@
+/* What is lent to the functions that are compared: bytes to read, and rooms to
+ * write into, one for each implementation with the same dirt in and around it. */
+#ifndef LEND_H
+#define LEND_H
+
+#include "random.h"
+
+#include <stdbool.h>
+#include <stddef.h>
+#include <stdint.h>
+
+/* The most bytes that can be lent at a time, to read and as a room. */
+#define LEND_BYTES 4096
+#define LEND_ROOM 512
+
+/* A copy of at most LEND_BYTES bytes. Half the time it stands right before a page
+ * that can't be read, so that reading past its end ends the program, else at any
+ * alignment. For 0 bytes the pointer is null half the time. The copy lasts until
+ * the next call. */
+const uint8_t *lend_bytes(struct random *random, const uint8_t *bytes, size_t length);
+
+/* Around every room lie as many bytes that nobody may change. */
+#define LEND_GUARD 64
+
+union lent {
+    uint8_t bytes[LEND_GUARD + LEND_ROOM + LEND_GUARD];
+    int16_t numbers[(LEND_GUARD + LEND_ROOM + LEND_GUARD) / 2];
+};
+
+struct rooms {
+    size_t length; /* of the room in bytes, without what lies around it */
+    bool null;     /* a room of 0 bytes at no address */
+    union lent found;
+    union lent first;
+    union lent second;
+};
+
+/* Two rooms of the length given in bytes, at most LEND_ROOM. */
+void rooms_make(struct rooms *rooms, struct random *random, size_t length);
+
+/* The pointer to lend for rooms->first or rooms->second. */
+uint8_t *room_of_bytes(const struct rooms *rooms, union lent *lent);
+int16_t *room_of_numbers(const struct rooms *rooms, union lent *lent);
+
+/* Null if both rooms have the same content, nothing around them changed and,
+ * where `kept`, the rooms themselves didn't; else what went wrong. */
+const char *rooms_wrong(const struct rooms *rooms, bool kept);
+
+#endif
