@@ -9,6 +9,7 @@ use native.Mathlib.Omega.{arith}
 use lib.Dec.{eqb, leb}
 use lib.ListN.{length, getD}
 use borrow.Author.Tests.{eqb-true, eqb-false, eq-eqb, ne-eqb, leb-true, le-leb, lt-leb, not-true, not-false}
+use Rattle.tables.specs.Pick.{pick}
 use Rattle.bits.specs.Numbers.{Order, least, most, bit, join, number, twelve, twelveIn}
 use Rattle.bits.specs.Twelve.{Bytes, front, back, fromBytes, PartsOf, Twelve}
 use Rattle.bits.proofs.Joins.{join-same, join-below}
@@ -107,26 +108,32 @@ unfolding join back
 nothing-odd least = refl
 nothing-odd most = refl
 
--- The number from its two bytes, at an even and at an odd place.
-module _ (o : Order) (b : List ℕ) (k w s : ℕ) (bytes : Bytes b) (p : PartsOf b k w s) where
-  pub at-even : k % 2 ≡ 0 → join o 8 w 4 (front o s) ≡ twelveIn o b k
-  unfolding fromBytes
-  at-even e = go (leb (12 * k + 12) (8 * length b)) refl
-    where
-      go : (t : Bool) → leb (12 * k + 12) (8 * length b) ≡ t → join o 8 w 4 (front o s) ≡ twelveIn o b k
-      go true t = rw (p .own, p .with-next, t, law o b k bytes .is, eq-eqb (k % 2) 0 e, e, add-zero (k / 2 * 3))
-      go false t = rw (p .own, p .with-next, t) (nothing-even o)
+-- The number from its two bytes.
+pub from-parts : (o : Order) (b : List ℕ) (k w s : ℕ) → Bytes b → PartsOf b k w s
+    → pick (eqb (k % 2) 0) (join o 8 w 4 (front o s)) (join o 4 (back o s) 8 w) ≡ twelveIn o b k
+unfolding fromBytes
+from-parts o b k w s bytes p = go (leb (12 * k + 12) (8 * length b)) (eqb (k % 2) 0) refl refl
+  where
+    go : (t e : Bool) → leb (12 * k + 12) (8 * length b) ≡ t → eqb (k % 2) 0 ≡ e → pick (eqb (k % 2) 0) (join o 8 w 4 (front o s)) (join o 4 (back o s) 8 w) ≡ twelveIn o b k
+    go true true t e = rw (p .own, p .with-next, t, law o b k bytes .is, e, eqb-true (k % 2) 0 e, add-zero (k / 2 * 3))
+    go true false t e = let one : k % 2 ≡ 1 = omega (arith, eqb-false (k % 2) 0 e) in rw (p .own, p .with-next, t, law o b k bytes .is, e, one)
+    go false true t e = rw (p .own, p .with-next, t, e) (nothing-even o)
+    go false false t e = rw (p .own, p .with-next, t, e) (nothing-odd o)
 
-  pub at-odd : (k % 2 ≡ 0 → ⊥) → join o 4 (back o s) 8 w ≡ twelveIn o b k
-  unfolding fromBytes
-  at-odd e = go (leb (12 * k + 12) (8 * length b)) refl
-    where
-      one : k % 2 ≡ 1
-      one = omega (arith, e)
+-- the same at each order, as the code computes it
+module _ (b : List ℕ) (k w s : ℕ) (bytes : Bytes b) (p : PartsOf b k w s) where
+  pub at-least : pick (eqb (k % 2) 0) (s % 16 * 256 + w) (w * 16 + s / 16) ≡ twelveIn least b k
+  unfolding join front back
+  at-least = from-parts least b k w s bytes p
 
-      go : (t : Bool) → leb (12 * k + 12) (8 * length b) ≡ t → join o 4 (back o s) 8 w ≡ twelveIn o b k
-      go true t = rw (p .own, p .with-next, t, law o b k bytes .is, ne-eqb (k % 2) 0 e, one)
-      go false t = rw (p .own, p .with-next, t) (nothing-odd o)
+  pub at-most : pick (eqb (k % 2) 1) (s % 16 * 256 + w) (w * 16 + s / 16) ≡ twelveIn most b k
+  unfolding join front back
+  at-most = swapped (k % 2) (omega arith) ∙ from-parts most b k w s bytes p
+    where
+      swapped : (m : ℕ) → m < 2 → pick (eqb m 1) (s % 16 * 256 + w) (w * 16 + s / 16) ≡ pick (eqb m 0) (w * 16 + s / 16) (s % 16 * 256 + w)
+      swapped zero h = refl
+      swapped (suc zero) h = refl
+      swapped (suc (suc m)) h = absurd (omega arith)
 
 -- the last byte and a half, of bytes that are not a whole number of threes
 pub third : (n k : ℕ) → n / 3 ≡ k / 2 → k % 2 ≡ 0 → eqb (n % 3) 2 ≡ leb (12 * k + 12) (8 * n)

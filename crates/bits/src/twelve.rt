@@ -1,7 +1,8 @@
 // 12-bit numbers at any place, two in three bytes, in either order of the bits.
 ghost use mathlib.Core.Path.{_≡_};
-ghost use Prim.Native.Nat.{_+_, _*_};
+ghost use Prim.Native.Nat.{_+_, _*_, _/_, _%_, _<_};
 ghost use lib.Dec.{leb};
+ghost use Rattle.tables.specs.Pick.{pick};
 ghost use Rattle.bits.specs.Numbers.{least, most, twelveIn};
 ghost use Rattle.bits.specs.Twelve.{PartsOf};
 use crate::wide;
@@ -45,26 +46,28 @@ fn bytes_of(b: &[u8], k: usize) -> Parts
     }
 }
 
-// Least significant bit first: Lunar Prospector's MAG samples (000, section 2.2).
-pub fn twelve_least(b: &[u8], k: usize) -> u16
-    ensures { λ r. ⌜ r ≡ twelveIn least (now (b .entry)) k ⌝ }
+// The number from its bytes: the half of the shared byte stands above the other byte, or below it.
+fn joined(p: Parts, above: bool) -> u16
+    requires { ⌜ (p .whole < 256) × (p .shared < 256) ⌝ }
+    ensures { λ r. ⌜ r ≡ pick above (p .shared % 16 * 256 + p .whole) (p .whole * 16 + p .shared / 16) ⌝ }
 {
-    let p = bytes_of(b, k);
-    if k % 2 == 0 {
+    if above {
         (p.shared % 16 * 256 + p.whole) as u16
     } else {
         (p.whole * 16 + p.shared / 16) as u16
     }
 }
 
+// Least significant bit first: Lunar Prospector's MAG samples (000, section 2.2).
+pub fn twelve_least(b: &[u8], k: usize) -> u16
+    ensures { λ r. ⌜ r ≡ twelveIn least (now (b .entry)) k ⌝ }
+{
+    joined(bytes_of(b, k), k % 2 == 0)
+}
+
 // Most significant bit first (003, ACE's minor frames).
 pub fn twelve_most(b: &[u8], k: usize) -> u16
     ensures { λ r. ⌜ r ≡ twelveIn most (now (b .entry)) k ⌝ }
 {
-    let p = bytes_of(b, k);
-    if k % 2 == 0 {
-        (p.whole * 16 + p.shared / 16) as u16
-    } else {
-        (p.shared % 16 * 256 + p.whole) as u16
-    }
+    joined(bytes_of(b, k), k % 2 == 1)
 }

@@ -1,3 +1,4 @@
 pub mod Encoded
 pub mod Outcomes
 pub mod Places
+pub mod Single

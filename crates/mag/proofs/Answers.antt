@@ -1,6 +1,6 @@
 -- The answers that the tests on the way lead to.
 -- Assumes nothing.
-use mathlib.Core.Path.{_≡_, refl}
+use mathlib.Core.Path.{_≡_, sym, subst, _∙_}
 use mathlib.Core.Bool.{Bool, true, false, _&&_}
 use mathlib.Core.List.{List}
 use Prim.Native.Nat.{ℕ, _-_}
@@ -11,7 +11,8 @@ use lib.ListN.{length, take, drop, length-drop}
 use lib.Seq.{take-all}
 use borrow.Author.Tests.{eq-eqb, ne-eqb}
 use Rattle.tables.specs.Build.{build}
-use Rattle.mag.specs.Samples.{magSize, samplesSize, range, sampleAt, rangeGiven, RangeIs, bothSized, Laid}
+use Rattle.mag.specs.Samples.{magSize, samplesSize, range, sampleAt, rangeGiven, RangeIs, magSized, bothSized, Laid}
+use Rattle.mag.specs.declared.unpacking.Unpacked.{Unpacked}
 use Rattle.mag.specs.declared.unpacking.Unpacked.the-variants.{Range, NoSuchPlace}
 
 pub with-range : (holds : Bool) (m : List ℕ) → holds ≡ true → RangeIs holds m (Range (range m))
@@ -33,8 +34,8 @@ module _ (m : List ℕ) (s : List ℤ) where
   room-off h k = none-laid (rw (eq-eqb (length m) magSize h, ne-eqb (length s) samplesSize k))
 
   -- the bytes after the first are lent as a part
-  pub all-laid : length m ≡ magSize → length s ≡ samplesSize → (s′ : List ℤ) → s′ ≡ build (sampleAt (take (length m - 1) (drop 1 m))) samplesSize → Laid m s (Range (range m)) s′
-  all-laid h k s′ e =
+  pub all-laid : length m ≡ magSize → length s ≡ samplesSize → (u : Unpacked) → RangeIs (magSized m) m u → (s′ : List ℤ) → s′ ≡ build (sampleAt (take (length m - 1) (drop 1 m))) samplesSize → Laid m s u s′
+  all-laid h k u a s′ e =
       let t : bothSized m s ≡ true = rw (eq-eqb (length m) magSize h, eq-eqb (length s) samplesSize k) in
       let p : take (length m - 1) (drop 1 m) ≡ drop 1 m = take-all (length m - 1) (drop 1 m) (simp length-drop (omega arith)) in
-      record { answer = with-range (bothSized m s) m t; room = rw t (rw p at e) }
+      record { answer = subst (λ (b : Bool). RangeIs b m u) (eq-eqb (length m) magSize h ∙ sym t) a; room = rw t (rw p at e) }

@@ -4,3 +4,4 @@ pub mod Opened
 pub mod Kept
 pub mod Types
 pub mod Told
+pub mod Single

@@ -10,9 +10,9 @@ use lib.ListN.{length, take, drop, length-take, length-drop}
 use borrow.Author.Tests.{eqb-true, eq-eqb, ne-eqb, le-leb}
 use Rattle.bits.specs.Numbers.{wordIn}
 use Rattle.tables.specs.Pick.{pick}
-use Rattle.record.specs.Layout.{size, packetSize, packetBytes, bytesAt}
+use Rattle.record.specs.Layout.{size, packetSize, packetAt, packetBytes, bytesAt}
 use Rattle.record.specs.Rules.{rules, firstBroken, broken, sizeHolds, verdictOf}
-use Rattle.record.specs.Contents.{recordOf, contentsOf, numberOf, ContentsIs, packetOf}
+use Rattle.record.specs.Contents.{recordOf, contentsOf, numberOf, ContentsIs, packetOf, PacketIs}
 use Rattle.record.specs.declared.Record.{Record}
 use Rattle.record.specs.declared.rules.Verdict.{Verdict}
 use Rattle.record.specs.declared.rules.Verdict.the-variants.{Passes, Refused}
@@ -43,9 +43,9 @@ module _ (r : List ℕ) where
     unfolding contentsOf numberOf
     with-fields e x f = let z = passed e in record { is = rw (eq-eqb (broken r) 0 z, f); number = sym z }
 
-    pub with-packet : v ≡ Passes → packetBytes r ≡ packetOf r
+    pub with-packet : (from : ℕ × ℕ) → v ≡ Passes → PacketIs r from (packetBytes r) (from .0, packetAt + from .1)
     unfolding packetOf
-    with-packet e = rw (eq-eqb (broken r) 0 (passed e))
+    with-packet from e = let z = eq-eqb (broken r) 0 (passed e) in record { bytes = rw z; block = refl; offset = rw z }
 
     module _ (n : ℕ) (e : v ≡ Refused n) where
       broken-is : broken r ≡ n
@@ -58,6 +58,6 @@ module _ (r : List ℕ) where
       unfolding contentsOf numberOf
       without-fields = record { is = rw (fails, broken-is); number = sym broken-is }
 
-      pub without-packet : [] ≡ packetOf r
+      pub without-packet : (from : ℕ × ℕ) → PacketIs r from [] from
       unfolding packetOf
-      without-packet = rw fails
+      without-packet from = record { bytes = rw fails; block = refl; offset = rw fails }

@@ -1,11 +1,11 @@
 -- The fields of a record that passes, and the packet part (01, "The record", "The packet").
 -- Assumes nothing.
-use Prim.Native.Nat.{ℕ}
+use Prim.Native.Nat.{ℕ, _+_}
 use mathlib.Core.List.{List, []}
 use mathlib.Core.Path.{_≡_}
 use lib.Dec.{eqb}
 use Rattle.tables.specs.Pick.{pick}
-use Rattle.record.specs.Layout.{count, packetBytes, day, millisecond, level, quality, firstFlag, secondFlag, thirdFlag, frameCode, frameType, subcom}
+use Rattle.record.specs.Layout.{count, packetAt, packetBytes, day, millisecond, level, quality, firstFlag, secondFlag, thirdFlag, frameCode, frameType, subcom}
 use Rattle.record.specs.Frame.{kindOf}
 use Rattle.record.specs.Signal.{levelOf}
 use Rattle.record.specs.Rules.{broken}
@@ -49,3 +49,10 @@ pub record ContentsIs (r : List ℕ) (c : Contents) : Type 0 where
 -- the caller's own bytes 286 to 453, or none
 unfoldable pub packetOf : List ℕ → List ℕ
 packetOf r = pick (eqb (broken r) 0) (packetBytes r) []
+
+-- the part handed back: its bytes, and that they are the caller's own: the same block, from byte 286 of the record on (the
+-- empty part lies at the record's start)
+pub record PacketIs (r : List ℕ) (from : ℕ × ℕ) (p : List ℕ) (at : ℕ × ℕ) : Type 0 where
+  pub bytes : p ≡ packetOf r
+  pub block : at .0 ≡ from .0
+  pub offset : at .1 ≡ pick (eqb (broken r) 0) (packetAt + from .1) (from .1)

@@ -1,3 +1,4 @@
 pub mod Upto
 pub mod Built
 pub mod Picks
+pub mod Single

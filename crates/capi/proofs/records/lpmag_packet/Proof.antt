@@ -35,7 +35,7 @@ returns-3 c =
     let r = now (a .r) in
     let z = sym (c .before .before .before .before .before .before .lpmag-check .ensures) ∙ c .before .before .before .before .before .if2 .left in
     let t = packet-told r z in
-    let e = c .before .before .before .before .packet .ensures ∙ t .0 in
+    let e = c .before .before .before .before .packet .ensures .bytes ∙ t .0 in
     copied-in packetSize (packetBytes r) r (now (a .room)) (c .before .before .before .before .before .before .before .if1 .left) (sym z) _ _ e (ap length e ∙ t .1) (c .before .before .copy .ensures)
 
 pub lpmag-packet-spec : {M : Type 1} → statement M

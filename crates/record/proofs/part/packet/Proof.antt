@@ -32,10 +32,10 @@ slice-aggregate-result : tie.Need-slice-aggregate-result
 slice-aggregate-result c = search needs
 
 returns : tie.Need-returns
-returns c = let k = c .before .before .before .check in with-packet (now (c .before .before .before .before .before .args .r)) (k .result) (k .ensures .is) (c .before .enum-told .given .1)
+returns c = let k = c .before .before .before .check in with-packet (now (c .before .before .before .before .before .args .r)) (k .result) (k .ensures .is) (c .before .before .before .before .before .args .r .ptr) (c .before .enum-told .given .1)
 
 returns-2 : tie.Need-returns-2
-returns-2 c = let k = c .before .before .before .check in without-packet (now (c .before .before .before .before .before .args .r)) (k .result) (k .ensures .is) _ (c .before .enum-told2 .given .1)
+returns-2 c = let k = c .before .before .before .check in without-packet (now (c .before .before .before .before .before .args .r)) (k .result) (k .ensures .is) _ (c .before .enum-told2 .given .1) (c .before .before .before .before .before .args .r .ptr)
 
 pub packet-spec : {M : Type 1} → statement M
 packet-spec =
