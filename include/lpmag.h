@@ -3,7 +3,8 @@
  *
  * A slice is a pointer and then a number of elements. A pointer may be null
  * only with 0 elements. No function keeps a pointer. Lent rooms must not
- * overlap any other argument. Every function answers for every input.
+ * overlap any other argument. Every function answers for every input. A lent
+ * buffer is called a room here.
  *
  * Papers: "01" is the rules for what is built, "000" the instrument's telemetry
  * format, "002" the archive label.
@@ -26,6 +27,9 @@ extern "C" {
 #define LPMAG_MAG_AT 3      /* where they stand in the packet */
 #define LPMAG_SAMPLES 54    /* numbers: 18 vectors of x, y, z */
 #define LPMAG_FIELDS 28     /* the room of lpmag_fields */
+
+/* The answer "no such place" of the magnetometer's functions. */
+#define LPMAG_NO_SUCH_PLACE 8
 
 /* Kinds that are no real-time type (0 to 35). */
 #define LPMAG_OTHER 64     /* types 36-57, 62, 63 */
@@ -57,7 +61,7 @@ uint8_t lpmag_check(const uint8_t *record, size_t length);
  *    0-3  clock count
  *    4-5  day of year
  *    6-9  millisecond of day
- *  10-12  the three flags, 1 or 2 each
+ *  10-12  the first, second and third flag, 1 or 2 each
  *     13  the type byte (frame code)
  *     14  the type, its low six bits
  *     15  the kind: 0 to 35 for a real-time frame of that type, LPMAG_OTHER
@@ -68,10 +72,10 @@ uint8_t lpmag_check(const uint8_t *record, size_t length);
  *  24-27  the signal quality's 32 bits */
 uint8_t lpmag_fields(const uint8_t *record, size_t length, uint8_t *room, size_t room_length);
 
-/* The 168-byte packet of a record, into a room of LPMAG_PACKET bytes. Answers
- * as lpmag_fields does; the room changes only when the answer is 0. (Where the
- * answer of lpmag_check is 0 the packet also stands at record +
- * LPMAG_PACKET_AT; no copy is needed to read it there.) */
+/* The 168-byte packet of a record, into a room of LPMAG_PACKET bytes. Answers 1
+ * when the room is of another size, else what lpmag_check answers; the room
+ * changes only when the answer is 0. (Where lpmag_check answers 0 the packet
+ * stands at record + LPMAG_PACKET_AT: no copy is needed to read it there.) */
 uint8_t lpmag_packet(const uint8_t *record, size_t length, uint8_t *room, size_t room_length);
 
 /* The kind of a packet's frame: 0 to 35 for a real-time frame of that type,
@@ -81,19 +85,21 @@ uint8_t lpmag_kind(const uint8_t *packet, size_t length);
 
 /* ---- the magnetometer ------------------------------------------------- */
 
-/* The range 0 to 7 of LPMAG_MAG bytes; 8, "no such place", for any other
+/* The range 0 to 7 of LPMAG_MAG bytes; LPMAG_NO_SUCH_PLACE for any other
  * number of bytes. */
 uint8_t lpmag_range(const uint8_t *mag, size_t length);
 
 /* The 54 samples of LPMAG_MAG bytes, -2,048 to 2,047, into a room of
- * LPMAG_SAMPLES numbers: vector by vector, x, y, z. Answers the range; 8, "no
- * such place", when either size is another, and then the room stays as found. */
+ * LPMAG_SAMPLES numbers: vector by vector, x, y, z. Answers the range;
+ * LPMAG_NO_SUCH_PLACE when either size is another, and then the room stays as
+ * found. */
 uint8_t lpmag_samples(const uint8_t *mag, size_t length, int16_t *room, size_t room_length);
 
 /* The nominal field in nT of a sample at a range, exact: 512 times it equals
  * the sample times 4 to the power of the range; sample 0 gives plus zero.
- * Answers 0; or 8, "no such place", for a range above 7 or a sample outside
- * -2,048 to 2,047, and then the number lent stays as found. */
+ * Answers 0; or LPMAG_NO_SUCH_PLACE for a range above 7 or a sample outside
+ * -2,048 to 2,047, and then the number lent stays as found. The pointer is
+ * never null. */
 uint8_t lpmag_field(int16_t sample, uint8_t range, float *field);
 
 #ifdef __cplusplus

@@ -1,7 +1,7 @@
 -- The law of 12-bit numbers, for either order.
 -- Assumes nothing.
 use mathlib.Core.Path.{_≡_, refl, sym, ap, _∙_}
-use mathlib.Core.Bool.{Bool, true, false, not}
+use mathlib.Core.Bool.{Bool, true, false, not, cond}
 use mathlib.Core.List.{List}
 use Prim.Native.Nat.{ℕ, zero, suc, _+_, _*_, _/_, _%_, _^_, _<_, _≤_}
 use native.Mathlib.Nat.{add-zero, mul-comm}
@@ -9,9 +9,9 @@ use native.Mathlib.Omega.{arith}
 use lib.Dec.{eqb, leb}
 use lib.ListN.{length, getD}
 use borrow.Author.Tests.{eqb-true, eqb-false, eq-eqb, ne-eqb, leb-true, le-leb, lt-leb, not-true, not-false}
-use Rattle.tables.specs.Pick.{pick}
 use Rattle.bits.specs.Numbers.{Order, least, most, bit, join, number, twelve, twelveIn}
-use Rattle.bits.specs.Twelve.{Bytes, front, back, fromBytes, PartsOf, Twelve}
+use Rattle.bits.specs.Twelve.{Bytes, front, back, fromBytes, Twelve, TwelveLaw}
+use Rattle.bits.specs.Parts.{PartsOf}
 use Rattle.bits.proofs.Joins.{join-same, join-below}
 use Rattle.bits.proofs.Numbers.{below, own, split, number-front, number-back, number-byte, one-more}
 
@@ -79,11 +79,12 @@ three o b b′ h bytes bytes′ p q = place
     place (suc (suc zero)) k = last .1
     place (suc (suc (suc j))) k = absurd (omega arith)
 
-pub law : (o : Order) (b : List ℕ) (k : ℕ) → Bytes b → Twelve o b k
+pub law : TwelveLaw
 law o b k bytes = record {
   is = is o b k bytes;
   small = below o b (12 * k) 12;
   own = λ b′ h. own o b b′ (12 * k) (12 * k) 12 h;
+  inside = λ h. rw (le-leb (12 * k + 12) (8 * length b) h);
   three = λ b′ bytes′ p q. three o b b′ k bytes bytes′ p q;
 }
 
@@ -93,10 +94,10 @@ module _ (b : List ℕ) (k : ℕ) (t : Bool) (told : t ≡ leb (12 * k + 12) (8 
   room h = leb-true (12 * k + 12) (8 * length b) (sym told ∙ not-false t h)
 
   pub no-parts : not t ≡ true → PartsOf b k 0 0
-  no-parts h = let e = sym told ∙ not-true t h in record { own = rw e; with-next = rw e; byte = omega arith; byte-too = omega arith }
+  no-parts h = let e = sym told ∙ not-true t h in record { whole-is = rw e; shared-is = rw e; whole-byte = omega arith; shared-byte = omega arith }
 
   pub both-parts : not t ≡ false → (x y : ℕ) → x ≡ getD b (k / 2 * 3 + k % 2 * 2) 0 → x < 256 → y ≡ getD b (k / 2 * 3 + 1) 0 → y < 256 → PartsOf b k x y
-  both-parts h x y e l f m = let i = sym told ∙ not-false t h in record { own = rw i e; with-next = rw i f; byte = l; byte-too = m }
+  both-parts h x y e l f m = let i = sym told ∙ not-false t h in record { whole-is = rw i e; shared-is = rw i f; whole-byte = l; shared-byte = m }
 
 nothing-even : (o : Order) → join o 8 0 4 (front o 0) ≡ 0
 unfolding join front
@@ -110,27 +111,27 @@ nothing-odd most = refl
 
 -- The number from its two bytes.
 pub from-parts : (o : Order) (b : List ℕ) (k w s : ℕ) → Bytes b → PartsOf b k w s
-    → pick (eqb (k % 2) 0) (join o 8 w 4 (front o s)) (join o 4 (back o s) 8 w) ≡ twelveIn o b k
+    → cond (eqb (k % 2) 0) (join o 8 w 4 (front o s)) (join o 4 (back o s) 8 w) ≡ twelveIn o b k
 unfolding fromBytes
 from-parts o b k w s bytes p = go (leb (12 * k + 12) (8 * length b)) (eqb (k % 2) 0) refl refl
   where
-    go : (t e : Bool) → leb (12 * k + 12) (8 * length b) ≡ t → eqb (k % 2) 0 ≡ e → pick (eqb (k % 2) 0) (join o 8 w 4 (front o s)) (join o 4 (back o s) 8 w) ≡ twelveIn o b k
-    go true true t e = rw (p .own, p .with-next, t, law o b k bytes .is, e, eqb-true (k % 2) 0 e, add-zero (k / 2 * 3))
-    go true false t e = let one : k % 2 ≡ 1 = omega (arith, eqb-false (k % 2) 0 e) in rw (p .own, p .with-next, t, law o b k bytes .is, e, one)
-    go false true t e = rw (p .own, p .with-next, t, e) (nothing-even o)
-    go false false t e = rw (p .own, p .with-next, t, e) (nothing-odd o)
+    go : (t e : Bool) → leb (12 * k + 12) (8 * length b) ≡ t → eqb (k % 2) 0 ≡ e → cond (eqb (k % 2) 0) (join o 8 w 4 (front o s)) (join o 4 (back o s) 8 w) ≡ twelveIn o b k
+    go true true t e = rw (p .whole-is, p .shared-is, t, law o b k bytes .is, e, eqb-true (k % 2) 0 e, add-zero (k / 2 * 3))
+    go true false t e = let one : k % 2 ≡ 1 = omega (arith, eqb-false (k % 2) 0 e) in rw (p .whole-is, p .shared-is, t, law o b k bytes .is, e, one)
+    go false true t e = rw (p .whole-is, p .shared-is, t, e) (nothing-even o)
+    go false false t e = rw (p .whole-is, p .shared-is, t, e) (nothing-odd o)
 
 -- the same at each order, as the code computes it
 module _ (b : List ℕ) (k w s : ℕ) (bytes : Bytes b) (p : PartsOf b k w s) where
-  pub at-least : pick (eqb (k % 2) 0) (s % 16 * 256 + w) (w * 16 + s / 16) ≡ twelveIn least b k
+  pub at-least : cond (eqb (k % 2) 0) (s % 16 * 256 + w) (w * 16 + s / 16) ≡ twelveIn least b k
   unfolding join front back
   at-least = from-parts least b k w s bytes p
 
-  pub at-most : pick (eqb (k % 2) 1) (s % 16 * 256 + w) (w * 16 + s / 16) ≡ twelveIn most b k
+  pub at-most : cond (eqb (k % 2) 1) (s % 16 * 256 + w) (w * 16 + s / 16) ≡ twelveIn most b k
   unfolding join front back
   at-most = swapped (k % 2) (omega arith) ∙ from-parts most b k w s bytes p
     where
-      swapped : (m : ℕ) → m < 2 → pick (eqb m 1) (s % 16 * 256 + w) (w * 16 + s / 16) ≡ pick (eqb m 0) (w * 16 + s / 16) (s % 16 * 256 + w)
+      swapped : (m : ℕ) → m < 2 → cond (eqb m 1) (s % 16 * 256 + w) (w * 16 + s / 16) ≡ cond (eqb m 0) (w * 16 + s / 16) (s % 16 * 256 + w)
       swapped zero h = refl
       swapped (suc zero) h = refl
       swapped (suc (suc m)) h = absurd (omega arith)

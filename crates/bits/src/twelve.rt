@@ -2,9 +2,9 @@
 ghost use mathlib.Core.Path.{_≡_};
 ghost use Prim.Native.Nat.{_+_, _*_, _/_, _%_, _<_};
 ghost use lib.Dec.{leb};
-ghost use Rattle.tables.specs.Pick.{pick};
+ghost use mathlib.Core.Bool.{cond};
 ghost use Rattle.bits.specs.Numbers.{least, most, twelveIn};
-ghost use Rattle.bits.specs.Twelve.{PartsOf};
+ghost use Rattle.bits.specs.Parts.{PartsOf};
 use crate::wide;
 
 // Whether the number at place k lies wholly in n bytes. It multiplies nothing, since k may be any number.
@@ -49,7 +49,7 @@ fn bytes_of(b: &[u8], k: usize) -> Parts
 // The number from its bytes: the half of the shared byte stands above the other byte, or below it.
 fn joined(p: Parts, above: bool) -> u16
     requires { ⌜ (p .whole < 256) × (p .shared < 256) ⌝ }
-    ensures { λ r. ⌜ r ≡ pick above (p .shared % 16 * 256 + p .whole) (p .whole * 16 + p .shared / 16) ⌝ }
+    ensures { λ r. ⌜ r ≡ cond above (p .shared % 16 * 256 + p .whole) (p .whole * 16 + p .shared / 16) ⌝ }
 {
     if above {
         (p.shared % 16 * 256 + p.whole) as u16

@@ -1,12 +1,12 @@
 -- What a lent room holds after each outcome of a question for a record.
 -- Assumes nothing.
+use mathlib.Core.Bool.{cond}
 use mathlib.Core.Path.{_≡_, refl, sym, ap, _∙_}
 use mathlib.Core.List.{List}
 use Prim.Native.Nat.{ℕ}
 use lib.Dec.{eqb}
 use lib.ListN.{length}
 use borrow.Author.Tests.{eq-eqb, ne-eqb}
-use Rattle.tables.specs.Pick.{pick}
 use Rattle.buffers.specs.Copying.{copied}
 use Rattle.record.specs.Rules.{broken}
 use Rattle.capi.specs.Answers.{Given}

@@ -1,20 +1,20 @@
 -- One answer, and one content of each room: any two outcomes that a promise allows are equal. (The functions that lend no room
 -- promise an equation: `one` of tables is their law.)
 -- Assumes nothing.
+use mathlib.Core.Bool.{cond}
 use mathlib.Core.Path.{_≡_, ap, _∙_}
 use mathlib.Core.List.{List}
 use Prim.Native.Nat.{ℕ}
 use lib.Dec.{eqb}
 use lib.Ieee.{Float}
 use lib.IntN.{ℤ}
-use Rattle.tables.specs.Pick.{pick}
 use Rattle.tables.proofs.Single.{one}
 use Rattle.capi.specs.Answers.{Given, SamplesGiven, FieldGiven}
 
 pub one-given : (size : ℕ) (value r room : List ℕ) (m n : ℕ) (a b : List ℕ) → Given size value r room m a → Given size value r room n b → (m ≡ n) × (a ≡ b)
 one-given size value r room m n a b x y =
     let e = one (x .number) (y .number) in
-    (e, one (x .written ∙ ap (λ (k : ℕ). pick (eqb k 0) value room) e) (y .written))
+    (e, one (x .written ∙ ap (λ (k : ℕ). cond (eqb k 0) value room) e) (y .written))
 
 pub one-samples : (m : List ℕ) (room : List ℤ) (k n : ℕ) (a b : List ℤ) → SamplesGiven m room k a → SamplesGiven m room n b → (k ≡ n) × (a ≡ b)
 one-samples m room k n a b x y = (one (x .number) (y .number), one (x .written) (y .written))

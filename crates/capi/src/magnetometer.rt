@@ -4,7 +4,7 @@ ghost use Rattle.capi.specs.Answers.{rangeNumber, SamplesGiven, FieldGiv
 use mag::Field;
 use mag::Unpacked;
 
-// "No such place".
+// LPMAG_NO_SUCH_PLACE.
 const NOWHERE: u8 = 8;
 
 #[no_mangle]

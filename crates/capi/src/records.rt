@@ -34,7 +34,7 @@ fn mark_of(level: Level) -> u8
     }
 }
 
-fn encoded(f: Record) -> [u8; 28]
+fn encoded(f: Record) -> [u8; FIELDS]
     ensures { λ b. ⌜ b ≡ fieldBytes f ⌝ }
 {
     let kind = f.kind;

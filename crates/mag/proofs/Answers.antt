@@ -3,15 +3,16 @@
 use mathlib.Core.Path.{_≡_, sym, subst, _∙_}
 use mathlib.Core.Bool.{Bool, true, false, _&&_}
 use mathlib.Core.List.{List}
-use Prim.Native.Nat.{ℕ, _-_}
+use Prim.Native.Nat.{ℕ, _+_, _*_, _-_, _<_}
 use native.Mathlib.Omega.{arith}
 use lib.Dec.{eqb}
 use lib.IntN.{ℤ}
 use lib.ListN.{length, take, drop, length-drop}
 use lib.Seq.{take-all}
-use borrow.Author.Tests.{eq-eqb, ne-eqb}
+use borrow.Author.Tests.{eq-eqb, ne-eqb, le-leb}
 use Rattle.tables.specs.Build.{build}
-use Rattle.mag.specs.Samples.{magSize, samplesSize, range, sampleAt, rangeGiven, RangeIs, magSized, bothSized, Laid}
+use Rattle.tables.proofs.Built.{build-same}
+use Rattle.mag.specs.Samples.{magSize, samplesSize, range, sampleAt, sample, rangeGiven, RangeIs, magSized, bothSized, Laid}
 use Rattle.mag.specs.declared.unpacking.Unpacked.{Unpacked}
 use Rattle.mag.specs.declared.unpacking.Unpacked.the-variants.{Range, NoSuchPlace}
 
@@ -22,6 +23,12 @@ with-range holds m e = record { is = rw e; given = rw e }
 pub no-range : (holds : Bool) (m : List ℕ) → holds ≡ false → RangeIs holds m NoSuchPlace
 unfolding rangeGiven
 no-range holds m e = record { is = rw e; given = rw e }
+
+-- the 54 samples lie in the 81 bytes after the first
+in-bytes : (m : List ℕ) → length m ≡ magSize → (k : ℕ) → k < samplesSize → sampleAt (drop 1 m) k ≡ sample m k
+in-bytes m h k l =
+    let n : length (drop 1 m) ≡ 81 = simp length-drop (omega arith) in
+    rw (le-leb (12 * k + 12) (8 * length (drop 1 m)) (omega arith))
 
 module _ (m : List ℕ) (s : List ℤ) where
   none-laid : bothSized m s ≡ false → Laid m s NoSuchPlace s
@@ -38,4 +45,4 @@ module _ (m : List ℕ) (s : List ℤ) where
   all-laid h k u a s′ e =
       let t : bothSized m s ≡ true = rw (eq-eqb (length m) magSize h, eq-eqb (length s) samplesSize k) in
       let p : take (length m - 1) (drop 1 m) ≡ drop 1 m = take-all (length m - 1) (drop 1 m) (simp length-drop (omega arith)) in
-      record { answer = subst (λ (b : Bool). RangeIs b m u) (eq-eqb (length m) magSize h ∙ sym t) a; room = rw t (rw p at e) }
+      record { answer = subst (λ (b : Bool). RangeIs b m u) (eq-eqb (length m) magSize h ∙ sym t) a; room = rw t (rw p at e ∙ build-same (sampleAt (drop 1 m)) (sample m) samplesSize (in-bytes m h)) }

@@ -11,7 +11,7 @@ use borrow.Author.Tests.{le-leb, lt-leb, lt-ltb, eq-eqb, ne-eqb, eqb-true, eqb-f
 use Rattle.bits.specs.Numbers.{most, number, wordIn}
 use Rattle.bits.proofs.Numbers.{below, within, number-byte}
 use Rattle.record.specs.Layout.{size, bytesAt, bitsAt, version, spacecraft, rate, day, millisecond, statusSpare, firstFlag, secondFlag, thirdFlag}
-use Rattle.record.specs.Rules.{syncHolds, craftHolds, rateHolds, spareHolds, dayHolds, millisecondHolds, statusSpareHolds, flagHolds, flagsHold}
+use Rattle.record.specs.Rules.{syncHolds, spacecraftHolds, rateHolds, spareHolds, dayHolds, millisecondHolds, statusSpareHolds, flagHolds, flagsHold}
 
 -- two tests agree where each holds when the other does
 agree : (a b : Bool) → (a ≡ true → b ≡ true) → (b ≡ true → a ≡ true) → a ≡ b
@@ -69,9 +69,9 @@ module _ (r : List ℕ) where
     unfolding syncHolds
     sync-test = rw (word 0 4 (omega arith))
 
-    pub craft-test : eqb (wordIn r 4 2 / 64) 411 ≡ craftHolds r
-    unfolding craftHolds
-    craft-test = rw (word 4 2 (omega arith), version-is, spacecraft-is) (ten (bytesAt r 4 2) (two-bytes 4))
+    pub spacecraft-test : eqb (wordIn r 4 2 / 64) 411 ≡ spacecraftHolds r
+    unfolding spacecraftHolds
+    spacecraft-test = rw (word 4 2 (omega arith), version-is, spacecraft-is) (ten (bytesAt r 4 2) (two-bytes 4))
 
     pub rate-test : eqb (wordIn r 4 2 % 64) 5 ≡ rateHolds r
     unfolding rateHolds

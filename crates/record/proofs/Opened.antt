@@ -1,7 +1,7 @@
 -- What a verdict says of the record: its size, its contents, its packet.
 -- Assumes nothing.
 use mathlib.Core.Path.{_≡_, refl, sym, ap, _∙_}
-use mathlib.Core.Bool.{Bool, true, false}
+use mathlib.Core.Bool.{Bool, true, false, cond}
 use mathlib.Core.List.{List, []}
 use Prim.Native.Nat.{ℕ, _+_, _*_, _<_, _≤_}
 use native.Mathlib.Omega.{arith}
@@ -9,17 +9,16 @@ use lib.Dec.{eqb}
 use lib.ListN.{length, take, drop, length-take, length-drop}
 use borrow.Author.Tests.{eqb-true, eq-eqb, ne-eqb, le-leb}
 use Rattle.bits.specs.Numbers.{wordIn}
-use Rattle.tables.specs.Pick.{pick}
 use Rattle.record.specs.Layout.{size, packetSize, packetAt, packetBytes, bytesAt}
 use Rattle.record.specs.Rules.{rules, firstBroken, broken, sizeHolds, verdictOf}
-use Rattle.record.specs.Contents.{recordOf, contentsOf, numberOf, ContentsIs, packetOf, PacketIs}
+use Rattle.record.specs.Contents.{recordOf, contentsOf, contentsNumber, ContentsIs, packetOf, PacketIs}
 use Rattle.record.specs.declared.Record.{Record}
 use Rattle.record.specs.declared.rules.Verdict.{Verdict}
 use Rattle.record.specs.declared.rules.Verdict.the-variants.{Passes, Refused}
 use Rattle.record.specs.declared.values.Contents.the-variants as contents
 use Rattle.record.proofs.Order.{passes-zero, refused-is}
 
-not-two : (t : Bool) (n : ℕ) → pick t n 2 ≡ 0 → t ≡ true
+not-two : (t : Bool) (n : ℕ) → cond t n 2 ≡ 0 → t ≡ true
 not-two true n e = refl
 not-two false n e = absurd (omega arith)
 
@@ -40,7 +39,7 @@ module _ (r : List ℕ) where
     passed e = passes-zero r (broken r) (sym is ∙ e)
 
     pub with-fields : v ≡ Passes → (x : Record) → x ≡ recordOf r → ContentsIs r (contents.Fields x)
-    unfolding contentsOf numberOf
+    unfolding contentsOf contentsNumber
     with-fields e x f = let z = passed e in record { is = rw (eq-eqb (broken r) 0 z, f); number = sym z }
 
     pub with-packet : (from : ℕ × ℕ) → v ≡ Passes → PacketIs r from (packetBytes r) (from .0, packetAt + from .1)
@@ -55,7 +54,7 @@ module _ (r : List ℕ) where
       fails = ne-eqb (broken r) 0 (λ z. omega (arith, refused-is r (broken r) n (sym is ∙ e) .1))
 
       pub without-fields : ContentsIs r (contents.Refused n)
-      unfolding contentsOf numberOf
+      unfolding contentsOf contentsNumber
       without-fields = record { is = rw (fails, broken-is); number = sym broken-is }
 
       pub without-packet : (from : ℕ × ℕ) → PacketIs r from [] from

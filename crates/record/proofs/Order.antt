@@ -1,7 +1,7 @@
 -- Refused with n exactly when rule n fails and those before it hold; passes exactly when all hold.
 -- Assumes nothing.
 use mathlib.Core.Path.{_≡_, refl, sym, ap, subst, _∙_}
-use mathlib.Core.Bool.{Bool, true, false}
+use mathlib.Core.Bool.{Bool, true, false, cond}
 use mathlib.Core.List.{List, [], _∷_}
 use mathlib.Core.Logic.{_⊎_, inl, inr, ⊎-elim, _↔_}
 use Prim.Native.Nat.{ℕ, zero, suc, _<_, _≤_}
@@ -9,7 +9,6 @@ use native.Mathlib.Omega.{arith}
 use lib.Dec.{eqb, ltb}
 use lib.ListN.{length}
 use borrow.Author.Tests.{eqb-true, eqb-false, eq-eqb, ne-eqb, ltb-true, ltb-false}
-use Rattle.tables.specs.Pick.{pick}
 use Rattle.record.specs.Layout.{size}
 use Rattle.record.specs.Rules.{Rule, rules, firstBroken, broken, holdsIn, ruleHolds, verdictOf, sizeHolds, numberOf, VerdictIs, Exactly}
 use Rattle.record.specs.declared.rules.Verdict.{Verdict}
@@ -46,7 +45,7 @@ module _ (r : List ℕ) where
   unfolding holdsIn
   past x xs m h k = go (eqb (x .number) m) refl
     where
-      go : (t : Bool) → eqb (x .number) m ≡ t → pick t (x .holds r) (holdsIn xs m r) ≡ true
+      go : (t : Bool) → eqb (x .number) m ≡ t → cond t (x .holds r) (holdsIn xs m r) ≡ true
       go true t = h
       go false t = k
 
@@ -55,7 +54,7 @@ module _ (r : List ℕ) where
   first [] s h up = inl (refl, λ m. refl)
   first (x ∷ xs) s h up = go (x .holds r) refl (first xs (suc s) (omega arith) (up .1))
     where
-      go : (t : Bool) → x .holds r ≡ t → Found xs r (firstBroken xs r) → Found (x ∷ xs) r (pick t (firstBroken xs r) (x .number))
+      go : (t : Bool) → x .holds r ≡ t → Found xs r (firstBroken xs r) → Found (x ∷ xs) r (cond t (firstBroken xs r) (x .number))
       go true t (inl f) = inl (f .0, λ m. past x xs m t (f .1 m))
       go true t (inr f) =
           let n = firstBroken xs r in
@@ -89,14 +88,14 @@ module _ (r : List ℕ) where
   pub passes-zero : (n : ℕ) → verdictOf n ≡ Passes → n ≡ 0
   passes-zero n e = go (eqb n 0) refl e
     where
-      go : (t : Bool) → eqb n 0 ≡ t → pick t Passes (Refused n) ≡ Passes → n ≡ 0
+      go : (t : Bool) → eqb n 0 ≡ t → cond t Passes (Refused n) ≡ Passes → n ≡ 0
       go true t e = eqb-true n 0 t
       go false t e = cc
 
   pub refused-is : (n k : ℕ) → verdictOf n ≡ Refused k → (n ≡ k) × (0 < n)
   refused-is n k e = go (eqb n 0) refl e
     where
-      go : (t : Bool) → eqb n 0 ≡ t → pick t Passes (Refused n) ≡ Refused k → (n ≡ k) × (0 < n)
+      go : (t : Bool) → eqb n 0 ≡ t → cond t Passes (Refused n) ≡ Refused k → (n ≡ k) × (0 < n)
       go true t e = let z : n ≡ k = cc in let y : _≡_ {A = ℕ} 0 1 = cc in absurd (omega arith)
       go false t e = (cc, omega (arith, eqb-false n 0 t))
 

@@ -10,9 +10,8 @@ use lib.ListN.{length, length-take, length-drop}
 use borrow.Author.Tests.{eq-eqb}
 use Rattle.record.specs.Layout.{size, packetSize, packetBytes}
 use Rattle.record.proofs.Opened.{sized}
-use Rattle.record.specs.Rules.{broken, verdictOf, VerdictIs}
-use Rattle.record.specs.Rules.{numberOf as verdictNumber}
-use Rattle.record.specs.Contents.{recordOf, contentsOf, numberOf, ContentsIs, packetOf}
+use Rattle.record.specs.Rules.{broken, verdictOf, numberOf, VerdictIs}
+use Rattle.record.specs.Contents.{recordOf, contentsOf, contentsNumber, ContentsIs, packetOf}
 use Rattle.record.specs.declared.Record.{Record}
 use Rattle.record.specs.declared.rules.Verdict.{Verdict}
 use Rattle.record.specs.declared.rules.Verdict.the-variants.{Passes, Refused}
@@ -21,27 +20,27 @@ use Rattle.record.specs.declared.values.Contents.the-variants as content
 
 module _ (r : List ℕ) (v : Verdict) (is : VerdictIs r v) where
   pub passes-told : v ≡ Passes → 0 ≡ broken r
-  unfolding verdictNumber
-  passes-told e = sym (ap verdictNumber e) ∙ is .number
+  unfolding numberOf
+  passes-told e = sym (ap numberOf e) ∙ is .number
 
   pub refused-told : (n : ℕ) → v ≡ Refused n → n ≡ broken r
-  unfolding verdictNumber
-  refused-told n e = sym (ap verdictNumber e) ∙ is .number
+  unfolding numberOf
+  refused-told n e = sym (ap numberOf e) ∙ is .number
 
 module _ (r : List ℕ) (c : Contents) (is : ContentsIs r c) where
   -- the fields, of a record that passes
   pub fields-told : (f : Record) → c ≡ contents.Fields f → (broken r ≡ 0) × (f ≡ recordOf r)
-  unfolding numberOf contentsOf
+  unfolding contentsNumber contentsOf
   fields-told f e =
-      let z : broken r ≡ 0 = sym (is .number) ∙ ap numberOf e in
+      let z : broken r ≡ 0 = sym (is .number) ∙ ap contentsNumber e in
       let k : contentsOf r ≡ contents.Fields (recordOf r) = rw (eq-eqb (broken r) 0 z) in
       (z, cc (is .is))
 
   -- the number, of a record that doesn't
   pub number-told : (n : ℕ) → c ≡ contents.Refused n → (n ≡ broken r) × (n ≡ 0 → ⊥)
-  unfolding numberOf contentsOf
+  unfolding contentsNumber contentsOf
   number-told n e =
-      let z : n ≡ broken r = sym (ap numberOf e) ∙ is .number in (
+      let z : n ≡ broken r = sym (ap contentsNumber e) ∙ is .number in (
         z,
         λ o.
             let k : contentsOf r ≡ contents.Fields (recordOf r) = rw (eq-eqb (broken r) 0 (sym z ∙ o)) in

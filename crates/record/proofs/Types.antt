@@ -1,20 +1,24 @@
--- The kind of every type, computed once; rule 11 in 01's words.
+-- The kind of every type, computed once; rule 11 by the kind.
 -- Assumes nothing.
 use mathlib.Core.Path.{_≡_, refl, sym, ap, subst, _∙_}
-use mathlib.Core.Bool.{Bool, true, false, not, _&&_}
+use mathlib.Core.Bool.{Bool, true, false, not, cond, _&&_}
 use mathlib.Core.List.{List}
 use Prim.Native.Nat.{ℕ, _%_, _<_}
 use native.Mathlib.Omega.{arith}
 use lib.Dec.{T, eqb, leb}
 use lib.ListN.{length, take, drop, length-take, length-drop}
 use borrow.Author.Tests.{eq-eqb, ne-eqb}
-use Rattle.tables.specs.Pick.{pick}
 use Rattle.tables.proofs.Upto.{both, both-left, both-right, upto, upto-at}
 use Rattle.record.specs.Layout.{size, packetSize, packetBytes, frameCode, frameType}
-use Rattle.record.specs.Frame.{kindOfType, kindOf, typesOf, defined, KindIs}
+use Rattle.record.specs.Frame.{kindOfType, kindOf, typesOf, KindIs}
 use Rattle.record.specs.Rules.{typeHolds}
 use Rattle.record.specs.declared.frame.Kind.{Kind}
-use Rattle.record.specs.declared.frame.Kind.the-variants.{Undefined}
+use Rattle.record.specs.declared.frame.Kind.the-variants.{RealTime, Other, Undefined}
+
+unfoldable pub defined : Kind → Bool
+defined (RealTime t) = true
+defined Other = true
+defined Undefined = false
 
 same : Bool → Bool → Bool
 same true b = b
@@ -57,11 +61,12 @@ module _ (p : List ℕ) where
   unfolding kindOf
   kind-off h = record { is = rw (ne-eqb (length p) packetSize h); typed = λ l. absurd (h l) }
 
--- rule 11 fails exactly when the type is 58 to 61
-pub eleven : (r : List ℕ) → length r ≡ size → let t = frameType (packetBytes r) in typeHolds r ≡ not (leb 58 t && leb t 61)
+-- rule 11 holds exactly when the packet's kind is a defined one
+pub eleven : (r : List ℕ) → length r ≡ size → typeHolds r ≡ defined (kindOf (packetBytes r))
 unfolding typeHolds
 eleven r h =
     let p = packetBytes r in
     let l : length p ≡ packetSize = simp (length-take, length-drop) (omega arith) in
     rw (kind-if p l)
-    (same-is _ _ (both-right (typesOf (kindOfType (frameType p)) (frameType p)) (same (defined (kindOfType (frameType p))) (not (leb 58 (frameType p) && leb (frameType p) 61))) (right-here p)))
+    (sym
+    (same-is _ _ (both-right (typesOf (kindOfType (frameType p)) (frameType p)) (same (defined (kindOfType (frameType p))) (not (leb 58 (frameType p) && leb (frameType p) 61))) (right-here p))))

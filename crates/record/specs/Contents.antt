@@ -1,10 +1,10 @@
 -- The fields of a record that passes, and the packet part (01, "The record", "The packet").
 -- Assumes nothing.
+use mathlib.Core.Bool.{cond}
 use Prim.Native.Nat.{ℕ, _+_}
 use mathlib.Core.List.{List, []}
 use mathlib.Core.Path.{_≡_}
 use lib.Dec.{eqb}
-use Rattle.tables.specs.Pick.{pick}
 use Rattle.record.specs.Layout.{count, packetAt, packetBytes, day, millisecond, level, quality, firstFlag, secondFlag, thirdFlag, frameCode, frameType, subcom}
 use Rattle.record.specs.Frame.{kindOf}
 use Rattle.record.specs.Signal.{levelOf}
@@ -35,24 +35,25 @@ recordOf r = record {
 
 -- the fields of a record that passes rules 2 to 11; else the rule's number and no fields
 unfoldable pub contentsOf : List ℕ → Contents
-contentsOf r = pick (eqb (broken r) 0) (Fields (recordOf r)) (Refused (broken r))
+contentsOf r = cond (eqb (broken r) 0) (Fields (recordOf r)) (Refused (broken r))
 
 -- 01's number of each case
-unfoldable pub numberOf : Contents → ℕ
-numberOf (Fields f) = 0
-numberOf (Refused n) = n
+unfoldable pub contentsNumber : Contents → ℕ
+contentsNumber (Fields f) = 0
+contentsNumber (Refused n) = n
 
+-- the contents of a record; and their number, which follows
 pub record ContentsIs (r : List ℕ) (c : Contents) : Type 0 where
   pub is : c ≡ contentsOf r
-  pub number : numberOf c ≡ broken r
+  pub number : contentsNumber c ≡ broken r
 
--- the caller's own bytes 286 to 453, or none
+-- bytes 286 to 453, or none
 unfoldable pub packetOf : List ℕ → List ℕ
-packetOf r = pick (eqb (broken r) 0) (packetBytes r) []
+packetOf r = cond (eqb (broken r) 0) (packetBytes r) []
 
--- the part handed back: its bytes, and that they are the caller's own: the same block, from byte 286 of the record on (the
--- empty part lies at the record's start)
+-- the part handed back: its bytes, and that they are the caller's own. A slice lies in a block of memory, the place's `.0`, from
+-- an offset on, its `.1`: the part lies in the record's block, 286 bytes on (the empty part at the record's start)
 pub record PacketIs (r : List ℕ) (from : ℕ × ℕ) (p : List ℕ) (at : ℕ × ℕ) : Type 0 where
   pub bytes : p ≡ packetOf r
   pub block : at .0 ≡ from .0
-  pub offset : at .1 ≡ pick (eqb (broken r) 0) (packetAt + from .1) (from .1)
+  pub offset : at .1 ≡ cond (eqb (broken r) 0) (packetAt + from .1) (from .1)

@@ -24,49 +24,65 @@ bitsAt r k j n = number most r (8 * k + j) n
 abbrev pub bytesAt : List ℕ → ℕ → ℕ → ℕ
 bytesAt r k n = number most r (8 * k) (8 * n)
 
--- the columns of the label
+-- The columns of the label, each under its NAME there.
+
+-- SYNC_CODE
 abbrev pub sync : List ℕ → ℕ
 sync r = bytesAt r 0 4
 
+-- VCDU_HEADER: VERSION_ID
 abbrev pub version : List ℕ → ℕ
 version r = bitsAt r 4 0 2
 
+-- VCDU_HEADER: SPACECRAFT_ID
 abbrev pub spacecraft : List ℕ → ℕ
 spacecraft r = bitsAt r 4 2 8
 
+-- VCDU_HEADER: TELEMETRY_RATE_CODE
 abbrev pub rate : List ℕ → ℕ
 rate r = bitsAt r 4 10 6
 
+-- SPACECRAFT_CLOCK_COUNT
 abbrev pub count : List ℕ → ℕ
 count r = bytesAt r 6 3
 
+-- SPARE_1
 abbrev pub spare : List ℕ → ℕ
 spare r = bytesAt r 9 1
 
+-- MAG_ER_PACKET
 abbrev pub packetBytes : List ℕ → List ℕ
 packetBytes r = take packetSize (drop packetAt r)
 
+-- EARTH_RECEIVED_TIME: "two bytes are day of year, ..
 abbrev pub day : List ℕ → ℕ
 day r = bytesAt r 456 2
 
+-- .. four bytes are millisecond of day"
 abbrev pub millisecond : List ℕ → ℕ
 millisecond r = bytesAt r 458 4
 
+-- AUTOMATIC_GAIN_CONTROL: "Downlink received signal level"
 abbrev pub level : List ℕ → ℕ
 level r = bytesAt r 462 4
 
+-- SIGNAL_QUALITY_INDICATOR
 abbrev pub quality : List ℕ → ℕ
 quality r = bytesAt r 466 4
 
+-- STATUS_FLAGS: SPARE_2
 abbrev pub statusSpare : List ℕ → ℕ
 statusSpare r = bitsAt r 470 0 10
 
+-- STATUS_FLAGS: FIRST_STATUS_FLAG
 abbrev pub firstFlag : List ℕ → ℕ
 firstFlag r = bitsAt r 470 10 2
 
+-- STATUS_FLAGS: SECOND_STATUS_FLAG
 abbrev pub secondFlag : List ℕ → ℕ
 secondFlag r = bitsAt r 470 12 2
 
+-- STATUS_FLAGS: THIRD_STATUS_FLAG
 abbrev pub thirdFlag : List ℕ → ℕ
 thirdFlag r = bitsAt r 470 14 2
 

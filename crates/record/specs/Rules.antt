@@ -2,53 +2,59 @@
 -- Assumes nothing.
 use Prim.Native.Nat.{ℕ, _<_}
 use mathlib.Core.Logic.{_↔_}
-use mathlib.Core.Bool.{Bool, true, false, _&&_, _||_}
+use mathlib.Core.Bool.{Bool, true, false, not, cond, _&&_, _||_}
 use mathlib.Core.List.{List, [], _∷_}
 use mathlib.Core.Path.{_≡_}
 use lib.Dec.{eqb, leb}
 use lib.ListN.{length}
-use Rattle.tables.specs.Pick.{pick}
-use Rattle.record.specs.Layout.{size, sync, version, spacecraft, rate, spare, packetBytes, day, millisecond, statusSpare, firstFlag, secondFlag, thirdFlag}
-use Rattle.record.specs.Frame.{kindOf, defined}
+use Rattle.record.specs.Layout.{size, sync, version, spacecraft, rate, spare, packetBytes, day, millisecond, statusSpare, firstFlag, secondFlag, thirdFlag, frameType}
 use Rattle.record.specs.declared.rules.Verdict.{Verdict}
 use Rattle.record.specs.declared.rules.Verdict.the-variants.{Passes, Refused}
 
--- a flag is 01 or 10
-abbrev pub flagHolds : ℕ → Bool
-flagHolds f = eqb f 1 || eqb f 2
+-- Each test is true where the rule holds. 01's row says when it fails.
 
+-- 2: "length isn't 472"
 unfoldable pub sizeHolds : List ℕ → Bool
 sizeHolds r = eqb (length r) size
 
+-- 3: "sync differs" from 1A CF FC 1D
 unfoldable pub syncHolds : List ℕ → Bool
 syncHolds r = eqb (sync r) 0x1ACFFC1D
 
--- version 01, spacecraft 10011011
-unfoldable pub craftHolds : List ℕ → Bool
-craftHolds r = eqb (version r) 1 && eqb (spacecraft r) 155
+-- 4: "version or spacecraft differs" from 01 and 10011011
+unfoldable pub spacecraftHolds : List ℕ → Bool
+spacecraftHolds r = eqb (version r) 1 && eqb (spacecraft r) 155
 
--- rate 000101
+-- 5: "rate differs" from 000101
 unfoldable pub rateHolds : List ℕ → Bool
 rateHolds r = eqb (rate r) 5
 
+-- 6: "byte 9 isn't 0"
 unfoldable pub spareHolds : List ℕ → Bool
 spareHolds r = eqb (spare r) 0
 
+-- 7: "day outside 1-366"
 unfoldable pub dayHolds : List ℕ → Bool
 dayHolds r = leb 1 (day r) && leb (day r) 366
 
+-- 8: "millisecond above 86,399,999"
 unfoldable pub millisecondHolds : List ℕ → Bool
 millisecondHolds r = leb (millisecond r) 86399999
 
+-- 9: "a spare status bit is set"
 unfoldable pub statusSpareHolds : List ℕ → Bool
 statusSpareHolds r = eqb (statusSpare r) 0
+
+-- 10: "a flag is 00 or 11"
+abbrev pub flagHolds : ℕ → Bool
+flagHolds f = eqb f 1 || eqb f 2
 
 unfoldable pub flagsHold : List ℕ → Bool
 flagsHold r = flagHolds (firstFlag r) && (flagHolds (secondFlag r) && flagHolds (thirdFlag r))
 
--- "type is 58-61"
+-- 11: "type is 58-61"
 unfoldable pub typeHolds : List ℕ → Bool
-typeHolds r = defined (kindOf (packetBytes r))
+typeHolds r = not (leb 58 (frameType (packetBytes r)) && leb (frameType (packetBytes r)) 61)
 
 -- a rule's number, and its test of a record
 pub record Rule : Type 0 where
@@ -63,7 +69,7 @@ unfoldable pub rules : List Rule
 rules =
     rule 2 sizeHolds
     ∷ rule 3 syncHolds
-    ∷ rule 4 craftHolds
+    ∷ rule 4 spacecraftHolds
     ∷ rule 5 rateHolds
     ∷ rule 6 spareHolds
     ∷ rule 7 dayHolds
@@ -76,7 +82,7 @@ rules =
 -- the number of the first rule that fails, or 0
 unfoldable pub firstBroken : List Rule → List ℕ → ℕ
 firstBroken [] r = 0
-firstBroken (x ∷ xs) r = pick (x .holds r) (firstBroken xs r) (x .number)
+firstBroken (x ∷ xs) r = cond (x .holds r) (firstBroken xs r) (x .number)
 
 -- 01's number of a record that fails one of rules 2 to 11, or 0
 unfoldable pub broken : List ℕ → ℕ
@@ -85,25 +91,26 @@ broken r = firstBroken rules r
 -- whether the rule of number n holds; a number that no rule has can't fail
 unfoldable pub holdsIn : List Rule → ℕ → List ℕ → Bool
 holdsIn [] n r = true
-holdsIn (x ∷ xs) n r = pick (eqb (x .number) n) (x .holds r) (holdsIn xs n r)
+holdsIn (x ∷ xs) n r = cond (eqb (x .number) n) (x .holds r) (holdsIn xs n r)
 
 abbrev pub ruleHolds : ℕ → List ℕ → Bool
 ruleHolds n r = holdsIn rules n r
 
 abbrev pub verdictOf : ℕ → Verdict
-verdictOf n = pick (eqb n 0) Passes (Refused n)
+verdictOf n = cond (eqb n 0) Passes (Refused n)
 
 -- 01's number of each case
 unfoldable pub numberOf : Verdict → ℕ
 numberOf Passes = 0
 numberOf (Refused n) = n
 
--- the verdict on a record, and its number
+-- the verdict on a record; and its number, which follows, since 01's numbers are what a promise goes by
 pub record VerdictIs (r : List ℕ) (v : Verdict) : Type 0 where
   pub is : v ≡ verdictOf (broken r)
   pub number : numberOf v ≡ broken r
 
--- refused with n exactly when rule n fails and those before it hold; passes exactly when all hold
+-- refused with n exactly when rule n fails and those before it hold; passes exactly when all hold. Proved for every list of
+-- bytes: `exactly` in proofs/Order.antt
 pub record Exactly (r : List ℕ) : Type 0 where
   pub refused : (n : ℕ) → (verdictOf (broken r) ≡ Refused n) ↔ ((ruleHolds n r ≡ false) × ((m : ℕ) → m < n → ruleHolds m r ≡ true))
   pub passes : (verdictOf (broken r) ≡ Passes) ↔ ((n : ℕ) → ruleHolds n r ≡ true)

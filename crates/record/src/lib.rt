@@ -43,7 +43,7 @@ impl Record {
     pub const HEADER_AT: usize = 4;
 
     // version 01, then spacecraft 10011011
-    pub const CRAFT: u16 = 0x19B;
+    pub const VERSION_SPACECRAFT: u16 = 0x19B;
 
     pub const RATE: u16 = 5;
 

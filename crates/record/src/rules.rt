@@ -2,8 +2,8 @@
 ghost use mathlib.Core.Path.{_≡_};
 ghost use lib.ListN.{length};
 ghost use Rattle.record.specs.Layout.{size};
-ghost use Rattle.record.specs.Rules.{flagHolds, syncHolds, craftHolds, rateHolds, spareHolds, dayHolds, millisecondHolds, statusSpareHolds, flagsHold, typeHolds, broken, VerdictIs};
-ghost use Rattle.tables.specs.Pick.{pick};
+ghost use Rattle.record.specs.Rules.{flagHolds, syncHolds, spacecraftHolds, rateHolds, spareHolds, dayHolds, millisecondHolds, statusSpareHolds, flagsHold, typeHolds, broken, VerdictIs};
+ghost use mathlib.Core.Bool.{cond};
 use crate::Record;
 use crate::frame::Kind;
 use crate::frame::kind_of;
@@ -21,11 +21,11 @@ fn sync_holds(r: &[u8]) -> bool
 }
 
 // Version and spacecraft, the upper ten bits of the header word.
-fn craft_holds(r: &[u8]) -> bool
+fn spacecraft_holds(r: &[u8]) -> bool
     requires { ⌜ length (now r) ≡ size ⌝ }
-    ensures { λ t. ⌜ t ≡ craftHolds (now (r .entry)) ⌝ }
+    ensures { λ t. ⌜ t ≡ spacecraftHolds (now (r .entry)) ⌝ }
 {
-    bits::word16(r, Record::HEADER_AT) / 64 == Record::CRAFT
+    bits::word16(r, Record::HEADER_AT) / 64 == Record::VERSION_SPACECRAFT
 }
 
 fn rate_holds(r: &[u8]) -> bool
@@ -106,7 +106,7 @@ fn type_holds(r: &[u8]) -> bool
 
 // The number of the first rule that fails, of one rule and those after it; 0 where all hold.
 fn first_broken(holds: bool, number: u8, after: u8) -> u8
-    ensures { λ n. ⌜ n ≡ pick holds after number ⌝ }
+    ensures { λ n. ⌜ n ≡ cond holds after number ⌝ }
 {
     if holds { after } else { number }
 }
@@ -123,7 +123,7 @@ fn broken_of(r: &[u8]) -> u8
     let n = first_broken(day_holds(r), 7, n);
     let n = first_broken(spare_holds(r), 6, n);
     let n = first_broken(rate_holds(r), 5, n);
-    let n = first_broken(craft_holds(r), 4, n);
+    let n = first_broken(spacecraft_holds(r), 4, n);
     first_broken(sync_holds(r), 3, n)
 }
 

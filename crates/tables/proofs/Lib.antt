@@ -1,4 +1,4 @@
 pub mod Upto
 pub mod Built
-pub mod Picks
+pub mod Conds
 pub mod Single

@@ -1,1 +1,1 @@
-// No function: the choice that definitions make by a test, and the law that turns a computed test into a rule.
+// No function: lists built from a function, and laws that turn a computed test into a rule.

@@ -50,8 +50,8 @@ rate-holds-requires c κs = search needs
 first-broken-requires-7 : tie.Need-first-broken-requires-7
 first-broken-requires-7 c κs = search needs
 
-craft-holds-requires : tie.Need-craft-holds-requires
-craft-holds-requires c κs = search needs
+spacecraft-holds-requires : tie.Need-spacecraft-holds-requires
+spacecraft-holds-requires c κs = search needs
 
 first-broken-requires-8 : tie.Need-first-broken-requires-8
 first-broken-requires-8 c κs = search needs
@@ -70,7 +70,7 @@ returns c =
       c .first-broken9 .ensures,
       c .before .sync-holds .ensures,
       c .before .before .first-broken8 .ensures,
-      c .before .before .before .craft-holds .ensures,
+      c .before .before .before .spacecraft-holds .ensures,
       c .before .before .before .before .first-broken7 .ensures,
       c .before .before .before .before .before .rate-holds .ensures,
       c .before .before .before .before .before .before .first-broken6 .ensures,
@@ -106,7 +106,7 @@ broken-of-spec =
     first-broken-requires-6
     rate-holds-requires
     first-broken-requires-7
-    craft-holds-requires
+    spacecraft-holds-requires
     first-broken-requires-8
     sync-holds-requires
     first-broken-requires-9

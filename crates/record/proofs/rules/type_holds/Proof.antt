@@ -1,8 +1,8 @@
 -- `record::rules::type_holds` meets its contract.
 -- Assumes nothing.
 use mathlib.Core.Path.{sym, ap, _∙_}
-use Rattle.record.specs.Frame.{defined}
-use Rattle.record.specs.Rules.{typeHolds}
+use denote.Ref.{now}
+use Rattle.record.proofs.Types.{defined, eleven}
 use native.Mathlib.Omega.{arith}
 use borrow.Author.Needs.{needs}
 use Rattle.record.proofs.rules.type_holds.Statement.{statement}
@@ -30,16 +30,16 @@ enum-told-3 : tie.Need-enum-told-3
 enum-told-3 c = search needs
 
 returns : tie.Need-returns
-unfolding typeHolds defined
-returns c = sym (ap defined (sym (c .before .before .kind-of .ensures .is) ∙ c .enum-told .given .1))
+unfolding defined
+returns c = let d = c .before .before .before .before .before in rw (eleven (now (d .args .r)) (d .pre)) (sym (ap defined (sym (c .before .before .kind-of .ensures .is) ∙ c .enum-told .given .1)))
 
 returns-2 : tie.Need-returns-2
-unfolding typeHolds defined
-returns-2 c = sym (ap defined (sym (c .before .before .kind-of .ensures .is) ∙ c .enum-told2 .given .1))
+unfolding defined
+returns-2 c = let d = c .before .before .before .before .before in rw (eleven (now (d .args .r)) (d .pre)) (sym (ap defined (sym (c .before .before .kind-of .ensures .is) ∙ c .enum-told2 .given .1)))
 
 returns-3 : tie.Need-returns-3
-unfolding typeHolds defined
-returns-3 c = sym (ap defined (sym (c .before .before .kind-of .ensures .is) ∙ c .enum-told3 .given .1))
+unfolding defined
+returns-3 c = let d = c .before .before .before .before .before in rw (eleven (now (d .args .r)) (d .pre)) (sym (ap defined (sym (c .before .before .kind-of .ensures .is) ∙ c .enum-told3 .given .1)))
 
 pub type-holds-spec : {M : Type 1} → statement M
 type-holds-spec =
