@@ -1,8 +1,8 @@
 -- Laws of `join`: x in m bits followed by y in n bits. They hold in either order.
 -- Assumes nothing.
-use mathlib.Core.Path.{_≡_, refl, sym, ap, _∙_}
+use mathlib.Core.Path.{_≡_, sym, ap, _∙_}
 use Prim.Native.Nat.{ℕ, _+_, _*_, _/_, _%_, _^_, _<_}
-use native.Mathlib.Nat.{add-assoc, add-mul, mul-assoc, mul-comm, add-comm}
+use native.Mathlib.Nat.{add-assoc, add-mul, mul-assoc, mul-comm}
 use native.Mathlib.Omega.{arith}
 use lib.Arith.{digits-lt, digits-div, digits-mod}
 use lib.Pow.{pow-add}

@@ -1,16 +1,16 @@
 -- The law of 12-bit numbers, for either order.
 -- Assumes nothing.
-use mathlib.Core.Path.{_≡_, refl, sym, ap, _∙_}
+use mathlib.Core.Path.{_≡_, refl, sym, _∙_}
 use mathlib.Core.Bool.{Bool, true, false, not, cond}
 use mathlib.Core.List.{List}
-use Prim.Native.Nat.{ℕ, zero, suc, _+_, _*_, _/_, _%_, _^_, _<_, _≤_}
+use Prim.Native.Nat.{ℕ, zero, suc, _+_, _*_, _/_, _%_, _<_, _≤_}
 use native.Mathlib.Nat.{add-zero, mul-comm}
 use native.Mathlib.Omega.{arith}
 use lib.Dec.{eqb, leb}
 use lib.ListN.{length, getD}
-use borrow.Author.Tests.{eqb-true, eqb-false, eq-eqb, ne-eqb, leb-true, le-leb, lt-leb, not-true, not-false}
-use Rattle.bits.specs.Numbers.{Order, least, most, bit, join, number, twelve, twelveIn}
-use Rattle.bits.specs.Twelve.{Bytes, front, back, fromBytes, Twelve, TwelveLaw}
+use borrow.Author.Tests.{eqb-true, eqb-false, leb-true, le-leb, lt-leb, not-true, not-false}
+use Rattle.bits.specs.Numbers.{Order, least, most, join, number, twelve, twelveIn}
+use Rattle.bits.specs.Twelve.{Bytes, front, back, fromBytes, TwelveLaw}
 use Rattle.bits.specs.Parts.{PartsOf}
 use Rattle.bits.proofs.Joins.{join-same, join-below}
 use Rattle.bits.proofs.Numbers.{below, own, split, number-front, number-back, number-byte, one-more}

@@ -1,7 +1,7 @@
 -- The 28 bytes as the code writes them, from the numbers that its callees answer.
 -- Assumes nothing.
 use mathlib.Core.Path.{_≡_}
-use mathlib.Core.List.{List, [], _∷_}
+use mathlib.Core.List.{[], _∷_}
 use Prim.Native.Nat.{ℕ, _/_, _%_}
 use native.Mathlib.Nat.{div-one}
 use Rattle.record.specs.Signal.{bitsOf}

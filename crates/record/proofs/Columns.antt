@@ -1,16 +1,16 @@
 -- The columns of a record, as the words that the code reads: bits of a word are a quotient and a remainder of it.
 -- Assumes nothing.
-use mathlib.Core.Path.{_≡_, refl, sym, ap, _∙_}
+use mathlib.Core.Path.{_≡_, refl, sym}
 use mathlib.Core.Bool.{Bool, true, false, _&&_}
 use mathlib.Core.List.{List}
-use Prim.Native.Nat.{ℕ, _+_, _*_, _/_, _%_, _^_, _<_, _≤_}
+use Prim.Native.Nat.{ℕ, _+_, _*_, _/_, _%_, _<_, _≤_}
 use native.Mathlib.Omega.{arith}
 use lib.Dec.{eqb, leb, ltb}
 use lib.ListN.{length, getD}
-use borrow.Author.Tests.{le-leb, lt-leb, lt-ltb, eq-eqb, ne-eqb, eqb-true, eqb-false, ltb-true, leb-true}
-use Rattle.bits.specs.Numbers.{most, number, wordIn}
+use borrow.Author.Tests.{le-leb, lt-leb, lt-ltb, eq-eqb, eqb-true, eqb-false, ltb-true, leb-true}
+use Rattle.bits.specs.Numbers.{most, wordIn}
 use Rattle.bits.proofs.Numbers.{below, within, number-byte}
-use Rattle.record.specs.Layout.{size, bytesAt, bitsAt, version, spacecraft, rate, day, millisecond, statusSpare, firstFlag, secondFlag, thirdFlag}
+use Rattle.record.specs.Layout.{size, bytesAt, version, spacecraft, rate, day, millisecond, statusSpare, firstFlag, secondFlag, thirdFlag}
 use Rattle.record.specs.Rules.{syncHolds, spacecraftHolds, rateHolds, spareHolds, dayHolds, millisecondHolds, statusSpareHolds, flagHolds, flagsHold}
 
 -- two tests agree where each holds when the other does

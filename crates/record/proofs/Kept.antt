@@ -5,7 +5,7 @@ use mathlib.Core.Bool.{Bool, true, false, not}
 use Prim.Native.Nat.{ℕ, zero, suc, _+_, _*_, _/_, _%_, _<_}
 use native.Mathlib.Omega.{arith}
 use borrow.Author.Tests.{eq-eqb, ne-eqb}
-use lib.Dec.{T, eqb, leb}
+use lib.Dec.{T, leb}
 use lib.Ieee.{Float, nan, inf, fin, up, down, level, eq, odd, hid, top, ofFields, binary32, ofBits, toBits, nanBits, isNan}
 use lib.Ieee.Scale.{finite}
 use Rattle.record.specs.declared.signal.Level.the-variants.{Finite, NotFinite}

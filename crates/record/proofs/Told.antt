@@ -1,16 +1,14 @@
 -- What a caller learns from an answer: laws on the promises of `check` and `fields`.
 -- Assumes nothing.
-use mathlib.Core.Path.{_≡_, refl, sym, ap, subst, _∙_}
-use mathlib.Core.Bool.{Bool, true, false}
+use mathlib.Core.Path.{_≡_, sym, ap, _∙_}
 use mathlib.Core.List.{List}
 use Prim.Native.Nat.{ℕ}
 use native.Mathlib.Omega.{arith}
-use lib.Dec.{eqb}
 use lib.ListN.{length, length-take, length-drop}
 use borrow.Author.Tests.{eq-eqb}
 use Rattle.record.specs.Layout.{size, packetSize, packetBytes}
 use Rattle.record.proofs.Opened.{sized}
-use Rattle.record.specs.Rules.{broken, verdictOf, numberOf, VerdictIs}
+use Rattle.record.specs.Rules.{broken, numberOf, VerdictIs}
 use Rattle.record.specs.Contents.{recordOf, contentsOf, contentsNumber, ContentsIs, packetOf}
 use Rattle.record.specs.declared.Record.{Record}
 use Rattle.record.specs.declared.rules.Verdict.{Verdict}

@@ -1,15 +1,15 @@
 -- The kind of every type, computed once; rule 11 by the kind.
 -- Assumes nothing.
-use mathlib.Core.Path.{_≡_, refl, sym, ap, subst, _∙_}
-use mathlib.Core.Bool.{Bool, true, false, not, cond, _&&_}
+use mathlib.Core.Path.{_≡_, refl, sym, _∙_}
+use mathlib.Core.Bool.{Bool, true, false, not, _&&_}
 use mathlib.Core.List.{List}
-use Prim.Native.Nat.{ℕ, _%_, _<_}
+use Prim.Native.Nat.{ℕ, _<_}
 use native.Mathlib.Omega.{arith}
-use lib.Dec.{T, eqb, leb}
-use lib.ListN.{length, take, drop, length-take, length-drop}
+use lib.Dec.{T, leb}
+use lib.ListN.{length, length-take, length-drop}
 use borrow.Author.Tests.{eq-eqb, ne-eqb}
 use Rattle.tables.proofs.Upto.{both, both-left, both-right, upto, upto-at}
-use Rattle.record.specs.Layout.{size, packetSize, packetBytes, frameCode, frameType}
+use Rattle.record.specs.Layout.{size, packetSize, packetBytes, frameType}
 use Rattle.record.specs.Frame.{kindOfType, kindOf, typesOf, KindIs}
 use Rattle.record.specs.Rules.{typeHolds}
 use Rattle.record.specs.declared.frame.Kind.{Kind}

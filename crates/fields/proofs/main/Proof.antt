@@ -1,7 +1,6 @@
 -- `fields::main` is safe and ends: the number of records is below a bound that no run reaches.
 -- Assumes nothing.
 use Prim.Native.Nat.{_≤_, _-_}
-use native.Mathlib.Omega.{arith}
 use borrow.Author.Needs.{needs}
 use Rattle.fields.proofs.main.Statement.{statement}
 use Rattle.fields.proofs.main.Tie as tie

@@ -1,6 +1,5 @@
 -- `bits::twelve::joined` meets its contract.
 -- Assumes nothing.
-use native.Mathlib.Omega.{arith}
 use borrow.Author.Needs.{needs}
 use Rattle.bits.proofs.twelve.joined.Statement.{statement}
 use Rattle.bits.proofs.twelve.joined.Tie as tie

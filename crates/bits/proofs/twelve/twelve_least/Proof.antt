@@ -3,7 +3,6 @@
 use mathlib.Core.Path.{_∙_}
 use denote.Ref.{now}
 use Rattle.bits.proofs.TwelveBits.{at-least}
-use native.Mathlib.Omega.{arith}
 use borrow.Author.Needs.{needs}
 use Rattle.bits.proofs.twelve.twelve_least.Statement.{statement}
 use Rattle.bits.proofs.twelve.twelve_least.Tie as tie

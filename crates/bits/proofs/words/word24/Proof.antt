@@ -1,10 +1,7 @@
 -- `bits::words::word24` meets its contract.
 -- Assumes nothing.
-use mathlib.Core.Path.{_≡_, sym, ap, _∙_}
-use Prim.Native.Nat.{ℕ, _+_, _*_, _≤_}
 use denote.Ref.{now}
-use lib.ListN.{length}
-use Rattle.bits.proofs.WordBytes.{weighed, inside, outside}
+use Rattle.bits.proofs.WordBytes.{inside, outside}
 use native.Mathlib.Omega.{arith}
 use borrow.Author.Needs.{needs}
 use Rattle.bits.proofs.words.word24.Statement.{statement}

@@ -6,7 +6,6 @@ use mir.Val.{toZ, ofZ}
 use mir.ValLaws.{toZ-ofZ}
 use denote.Ref.{now}
 use Rattle.capi.proofs.Places.{field-told}
-use native.Mathlib.Omega.{arith}
 use borrow.Author.Needs.{needs}
 use Rattle.capi.proofs.magnetometer.lpmag_field.Statement.{statement}
 use Rattle.capi.proofs.magnetometer.lpmag_field.Tie as tie

@@ -3,7 +3,6 @@
 use denote.Ref.{now}
 use Rattle.mag.specs.Samples.{magSized}
 use Rattle.capi.proofs.Places.{range-told}
-use native.Mathlib.Omega.{arith}
 use borrow.Author.Needs.{needs}
 use Rattle.capi.proofs.magnetometer.lpmag_range.Statement.{statement}
 use Rattle.capi.proofs.magnetometer.lpmag_range.Tie as tie

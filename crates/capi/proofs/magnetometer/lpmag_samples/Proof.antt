@@ -2,7 +2,6 @@
 -- Assumes nothing.
 use denote.Ref.{now}
 use Rattle.capi.proofs.Places.{samples-told}
-use native.Mathlib.Omega.{arith}
 use borrow.Author.Needs.{needs}
 use Rattle.capi.proofs.magnetometer.lpmag_samples.Statement.{statement}
 use Rattle.capi.proofs.magnetometer.lpmag_samples.Tie as tie

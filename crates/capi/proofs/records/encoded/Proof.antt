@@ -1,7 +1,6 @@
 -- `capi::records::encoded` meets its contract.
 -- Assumes nothing.
 use Rattle.capi.proofs.Encoded.{encoded-is}
-use native.Mathlib.Omega.{arith}
 use borrow.Author.Needs.{needs}
 use Rattle.capi.proofs.records.encoded.Statement.{statement}
 use Rattle.capi.proofs.records.encoded.Tie as tie

@@ -2,7 +2,6 @@
 -- Assumes nothing.
 use mathlib.Core.Path.{sym, ap}
 use Rattle.capi.specs.Bytes.{kindNumber}
-use native.Mathlib.Omega.{arith}
 use borrow.Author.Needs.{needs}
 use Rattle.capi.proofs.records.kind_number.Statement.{statement}
 use Rattle.capi.proofs.records.kind_number.Tie as tie

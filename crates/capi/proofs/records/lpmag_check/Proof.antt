@@ -2,7 +2,6 @@
 -- Assumes nothing.
 use denote.Ref.{now}
 use Rattle.record.proofs.Told.{passes-told, refused-told}
-use native.Mathlib.Omega.{arith}
 use borrow.Author.Needs.{needs}
 use Rattle.capi.proofs.records.lpmag_check.Statement.{statement}
 use Rattle.capi.proofs.records.lpmag_check.Tie as tie

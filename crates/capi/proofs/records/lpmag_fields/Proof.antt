@@ -7,7 +7,6 @@ use Rattle.record.specs.Contents.{recordOf}
 use Rattle.record.proofs.Told.{fields-told, number-told}
 use Rattle.capi.specs.Bytes.{fieldsSize, fieldBytes}
 use Rattle.capi.proofs.Outcomes.{wrong-room, refused, copied-in}
-use native.Mathlib.Omega.{arith}
 use borrow.Author.Needs.{needs}
 use Rattle.capi.proofs.records.lpmag_fields.Statement.{statement}
 use Rattle.capi.proofs.records.lpmag_fields.Tie as tie

@@ -2,7 +2,6 @@
 -- Assumes nothing.
 use mathlib.Core.Path.{ap, _∙_}
 use Rattle.capi.specs.Bytes.{kindNumber}
-use native.Mathlib.Omega.{arith}
 use borrow.Author.Needs.{needs}
 use Rattle.capi.proofs.records.lpmag_kind.Statement.{statement}
 use Rattle.capi.proofs.records.lpmag_kind.Tie as tie

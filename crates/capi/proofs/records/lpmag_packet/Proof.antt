@@ -6,7 +6,6 @@ use Rattle.record.proofs.Told.{packet-told}
 use denote.Ref.{now}
 use Rattle.record.specs.Layout.{packetSize, packetBytes}
 use Rattle.capi.proofs.Outcomes.{wrong-room, refused, copied-in}
-use native.Mathlib.Omega.{arith}
 use borrow.Author.Needs.{needs}
 use Rattle.capi.proofs.records.lpmag_packet.Statement.{statement}
 use Rattle.capi.proofs.records.lpmag_packet.Tie as tie

@@ -2,7 +2,6 @@
 -- Assumes nothing.
 use denote.Ref.{now}
 use Rattle.record.proofs.Types.{kind-sized, kind-off}
-use native.Mathlib.Omega.{arith}
 use borrow.Author.Needs.{needs}
 use Rattle.record.proofs.frame.kind_of.Statement.{statement}
 use Rattle.record.proofs.frame.kind_of.Tie as tie

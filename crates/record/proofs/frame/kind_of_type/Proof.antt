@@ -2,7 +2,6 @@
 -- Assumes nothing.
 use borrow.Author.Tests.{le-leb, lt-leb}
 use Rattle.record.specs.Frame.{kindOfType}
-use native.Mathlib.Omega.{arith}
 use borrow.Author.Needs.{needs}
 use Rattle.record.proofs.frame.kind_of_type.Statement.{statement}
 use Rattle.record.proofs.frame.kind_of_type.Tie as tie

@@ -1,11 +1,10 @@
 -- `record::part::packet` meets its contract.
 -- Assumes nothing.
-use mathlib.Core.Path.{_≡_, ap, _∙_}
+use mathlib.Core.Path.{_≡_}
 use lib.ListN.{length}
 use denote.Ref.{now}
 use Rattle.record.specs.Layout.{size}
 use Rattle.record.proofs.Opened.{sized, passed, with-packet, without-packet}
-use native.Mathlib.Omega.{arith}
 use borrow.Author.Needs.{needs}
 use Rattle.record.proofs.part.packet.Statement.{statement}
 use Rattle.record.proofs.part.packet.Tie as tie

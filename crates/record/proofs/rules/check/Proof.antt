@@ -1,9 +1,7 @@
 -- `record::rules::check` meets its contract.
 -- Assumes nothing.
 use denote.Ref.{now}
-use borrow.Author.Tests.{eq-eqb, ne-eqb}
 use Rattle.record.proofs.Order.{wrong-size, all-hold, one-fails}
-use native.Mathlib.Omega.{arith}
 use borrow.Author.Needs.{needs}
 use Rattle.record.proofs.rules.check.Statement.{statement}
 use Rattle.record.proofs.rules.check.Tie as tie

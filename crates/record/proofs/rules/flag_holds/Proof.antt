@@ -1,8 +1,6 @@
 -- `record::rules::flag_holds` meets its contract.
 -- Assumes nothing.
 use borrow.Author.Tests.{eq-eqb, ne-eqb}
-use native.Mathlib.Omega.{arith}
-use borrow.Author.Needs.{needs}
 use Rattle.record.proofs.rules.flag_holds.Statement.{statement}
 use Rattle.record.proofs.rules.flag_holds.Tie as tie
 

@@ -4,7 +4,6 @@ use mathlib.Core.Path.{sym, _∙_}
 use denote.Ref.{now}
 use borrow.Author.Tests.{not-true, not-false}
 use Rattle.record.proofs.Columns.{flags-test}
-use native.Mathlib.Omega.{arith}
 use borrow.Author.Needs.{needs}
 use Rattle.record.proofs.rules.flags_hold.Statement.{statement}
 use Rattle.record.proofs.rules.flags_hold.Tie as tie

@@ -2,7 +2,6 @@
 -- Assumes nothing.
 use denote.Ref.{now}
 use Rattle.record.proofs.Columns.{spacecraft-test}
-use native.Mathlib.Omega.{arith}
 use borrow.Author.Needs.{needs}
 use Rattle.record.proofs.rules.spacecraft_holds.Statement.{statement}
 use Rattle.record.proofs.rules.spacecraft_holds.Tie as tie

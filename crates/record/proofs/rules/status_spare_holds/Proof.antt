@@ -2,7 +2,6 @@
 -- Assumes nothing.
 use denote.Ref.{now}
 use Rattle.record.proofs.Columns.{status-test}
-use native.Mathlib.Omega.{arith}
 use borrow.Author.Needs.{needs}
 use Rattle.record.proofs.rules.status_spare_holds.Statement.{statement}
 use Rattle.record.proofs.rules.status_spare_holds.Tie as tie

@@ -3,7 +3,6 @@
 use mathlib.Core.Path.{sym, ap, _∙_}
 use denote.Ref.{now}
 use Rattle.record.proofs.Types.{defined, eleven}
-use native.Mathlib.Omega.{arith}
 use borrow.Author.Needs.{needs}
 use Rattle.record.proofs.rules.type_holds.Statement.{statement}
 use Rattle.record.proofs.rules.type_holds.Tie as tie

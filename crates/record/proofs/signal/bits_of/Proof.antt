@@ -3,7 +3,6 @@
 use mathlib.Core.Path.{sym, ap, _∙_}
 use Rattle.record.specs.Signal.{bitsOf}
 use Rattle.record.proofs.Kept.{equal-number, unequal-bits}
-use native.Mathlib.Omega.{arith}
 use borrow.Author.Needs.{needs}
 use Rattle.record.proofs.signal.bits_of.Statement.{statement}
 use Rattle.record.proofs.signal.bits_of.Tie as tie

@@ -1,13 +1,10 @@
 -- `record::signal::level_of` meets its contract.
 -- Assumes nothing.
 use mathlib.Core.Path.{refl}
-use Prim.Native.Nat.{_/_, _%_}
 use borrow.Author.Tests.{eq-eqb, ne-eqb}
-use lib.Ieee.{nanBits}
 use Rattle.record.specs.Signal.{levelOf, bitsOf}
 use Rattle.record.proofs.Kept.{not-nan, kept-bits, reads-finite, reads-none}
 use native.Mathlib.Omega.{arith}
-use borrow.Author.Needs.{needs}
 use Rattle.record.proofs.signal.level_of.Statement.{statement}
 use Rattle.record.proofs.signal.level_of.Tie as tie
 

@@ -2,7 +2,6 @@
 -- Assumes nothing.
 use denote.Ref.{now}
 use Rattle.record.proofs.Opened.{sized, passed, with-fields, without-fields}
-use native.Mathlib.Omega.{arith}
 use borrow.Author.Needs.{needs}
 use Rattle.record.proofs.values.fields.Statement.{statement}
 use Rattle.record.proofs.values.fields.Tie as tie
