@@ -1,43 +1,43 @@
 // Words of 2, 3 and 4 bytes at any place, most significant byte first (01, "The record").
 ghost use mathlib.Core.Path.{_≡_};
+ghost use Prim.Native.Nat.{_≤_};
 ghost use Rattle.bits.specs.Numbers.{wordIn};
 use crate::wide;
+
+// The word of n bytes from `at`; 0 where it doesn't lie wholly in b.
+fn word(b: &[u8], at: usize, n: usize) -> u32
+    requires { ⌜ n ≤ 4 ⌝ }
+    ensures { λ r. ⌜ r ≡ wordIn (now (b .entry)) at n ⌝ }
+{
+    if b.len() < n {
+        return 0;
+    }
+    if b.len() - n < at {
+        return 0;
+    }
+    let mut x: u32 = 0;
+    let mut i = 0;
+    while i < n {
+        x = x * 256 + wide(b[at + i]);
+        i += 1;
+    }
+    x
+}
 
 pub fn word16(b: &[u8], at: usize) -> u16
     ensures { λ r. ⌜ r ≡ wordIn (now (b .entry)) at 2 ⌝ }
 {
-    let n = b.len();
-    if n < 2 {
-        return 0;
-    }
-    if n - 2 < at {
-        return 0;
-    }
-    (wide(b[at]) * 256 + wide(b[at + 1])) as u16
+    word(b, at, 2) as u16
 }
 
 pub fn word24(b: &[u8], at: usize) -> u32
     ensures { λ r. ⌜ r ≡ wordIn (now (b .entry)) at 3 ⌝ }
 {
-    let n = b.len();
-    if n < 3 {
-        return 0;
-    }
-    if n - 3 < at {
-        return 0;
-    }
-    (wide(b[at]) * 256 + wide(b[at + 1])) * 256 + wide(b[at + 2])
+    word(b, at, 3)
 }
 
 pub fn word32(b: &[u8], at: usize) -> u32
     ensures { λ r. ⌜ r ≡ wordIn (now (b .entry)) at 4 ⌝ }
 {
-    let n = b.len();
-    if n < 4 {
-        return 0;
-    }
-    if n - 4 < at {
-        return 0;
-    }
-    ((wide(b[at]) * 256 + wide(b[at + 1])) * 256 + wide(b[at + 2])) * 256 + wide(b[at + 3])
+    word(b, at, 4)
 }

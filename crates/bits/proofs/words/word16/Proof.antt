@@ -1,61 +1,19 @@
--- `bits::words::word16` meets its contract.
+-- `bits::words::word16` meets its contract: a word of two bytes fits 16 bits.
 -- Assumes nothing.
 use denote.Ref.{now}
-use Rattle.bits.proofs.WordBytes.{inside, outside}
-use native.Mathlib.Omega.{arith}
+use Rattle.bits.proofs.WordBytes.{small-word}
 use borrow.Author.Needs.{needs}
 use Rattle.bits.proofs.words.word16.Statement.{statement}
 use Rattle.bits.proofs.words.word16.Tie as tie
 
-returns : tie.Need-returns
-returns c = let a = c .before .before .args in outside (now (a .b)) (a .at) 2 (omega arith)
-
-returns-2 : tie.Need-returns-2
-returns-2 c = let a = c .before .before .before .args in outside (now (a .b)) (a .at) 2 (omega arith)
-
-shared-slice-read-wide : tie.Need-shared-slice-read-wide
-shared-slice-read-wide c = search needs
-
-wide-requires : tie.Need-wide-requires
-wide-requires c κs = search needs
-
-mul-result : tie.Need-mul-result
-mul-result c = search needs
-
-add-wide : tie.Need-add-wide
-add-wide c = search needs
-
-shared-slice-read-wide-2 : tie.Need-shared-slice-read-wide-2
-shared-slice-read-wide-2 c = search needs
-
-wide-requires-2 : tie.Need-wide-requires-2
-wide-requires-2 c κs = search needs
-
-add-result : tie.Need-add-result
-add-result c = search needs
+word-requires : tie.Need-word-requires
+word-requires c κs = search needs
 
 cast-result : tie.Need-cast-result
-cast-result c = search needs
+cast-result c = let a = c .before .before .args in record { fits = rw (c .word .ensures) (small-word (now (a .b)) (a .at) 2) }
 
-returns-3 : tie.Need-returns-3
-returns-3 c =
-    let d = c .before .before .before .before in
-    let a = d .before .before .before .args in
-    rw (c .before .before .wide .ensures .0, c .wide2 .ensures .0)
-    (inside (now (a .b)) (a .at) 1 (λ i. d .before .before .shared-slice-known .given i .fits) (omega arith))
+returns : tie.Need-returns
+returns c = search needs
 
 pub word16-spec : {M : Type 1} → statement M
-word16-spec =
-    tie.close
-    (tie.spec
-    returns
-    returns-2
-    shared-slice-read-wide
-    wide-requires
-    mul-result
-    add-wide
-    shared-slice-read-wide-2
-    wide-requires-2
-    add-result
-    cast-result
-    returns-3)
+word16-spec = tie.close (tie.spec word-requires cast-result returns)
