@@ -26,10 +26,17 @@ extern "C" {
 #define LPMAG_MAG 82        /* the MAG bytes of a packet */
 #define LPMAG_MAG_AT 3      /* where they stand in the packet */
 #define LPMAG_SAMPLES 54    /* numbers: 18 vectors of x, y, z */
+#define LPMAG_SCIENCE 83    /* the ER bytes of a packet */
+#define LPMAG_SCIENCE_AT 85 /* where they stand in the packet */
+#define LPMAG_CELLS 2997    /* an accumulation: 2,988 cells, 9 bytes of bit pairs */
 #define LPMAG_FIELDS 28     /* the room of lpmag_fields */
 
-/* The answer "no such place" of the magnetometer's functions. */
-#define LPMAG_NO_SUCH_PLACE 8
+/* Answers that give no value. */
+#define LPMAG_NO_SUCH_PLACE 8  /* nothing stands where it was asked for */
+#define LPMAG_ABSENT 9         /* the frame that carries it isn't held */
+#define LPMAG_SCALE_UNKNOWN 10 /* the frame that says its scale isn't held */
+#define LPMAG_TOO_LARGE 11     /* a sum past 64 bits */
+#define LPMAG_NO_SUCH_BIN 88   /* lpmag_angle: no such anode or spin phase */
 
 /* Kinds that are no real-time type (0 to 35). */
 #define LPMAG_OTHER 64     /* types 36-57, 62, 63 */
@@ -101,6 +108,58 @@ uint8_t lpmag_samples(const uint8_t *mag, size_t length, int16_t *room, size_t r
  * -2,048 to 2,047, and then the number lent stays as found. The pointer is
  * never null. */
 uint8_t lpmag_field(int16_t sample, uint8_t range, float *field);
+
+/* ---- the electrons ---------------------------------------------------- */
+
+/* An accumulation is LPMAG_CELLS bytes (01, "ER cells"):
+ *      0-3     the header
+ *      4-1667  pitch-angle samples of 16 angles each, by energy bin, each bin's
+ *              in time order: bins 0-5 have 2, bins 6 and 9 have 32, bins 7, 8
+ *              and 10-14 have 4
+ *   1668-2987  3D: energy step e, angle b at 1668 + 88 e + b
+ *   2988-2996  the top two bits of each type's frame code, in type order, four
+ *              types a byte, the first highest
+ * `held` has the bit of weight 2^u set when the frame of type u, 0 to 35, is
+ * held. The questions below answer LPMAG_NO_SUCH_PLACE when a bit above 35 is
+ * set, when the cells are of another size, and for any number outside the
+ * counts above; after that LPMAG_ABSENT when the frame that carries the cell
+ * isn't held. Numbers lent for an answer change only when the answer is 0; their
+ * pointers are never null. */
+
+/* Lays one real-time frame into the cells: each of its LPMAG_SCIENCE bytes to
+ * the cell that 000 section 2.3 gives it, the top two bits of its frame code (the
+ * type byte) to its type's pair; all else stays as found. Answers 0; or
+ * LPMAG_NO_SUCH_PLACE when the type, the code's low six bits, is above 35 or
+ * either size is another, and then the cells stay as found. */
+uint8_t lpmag_lay_electrons(uint8_t code, const uint8_t *science, size_t length, uint8_t *cells, size_t cells_length);
+
+/* The raw byte of cell 0 to 2987. */
+uint8_t lpmag_cell(const uint8_t *cells, size_t length, uint64_t held, size_t cell, uint8_t *byte);
+
+/* The counts that a pitch-angle sample stands for, from *low to *high: energy
+ * bin 0 to 14, the sample's number in its bin, angle 0 to 15. Bins 0-5, 7 and 8
+ * may be pre-scaled: they answer LPMAG_SCALE_UNKNOWN when the sample is held but
+ * type 0, which carries the pre-scale state, isn't. */
+uint8_t lpmag_electron_sample(const uint8_t *cells, size_t length, uint64_t held, size_t bin, size_t number, size_t angle, uint64_t *low, uint64_t *high);
+
+/* The counts of 3D energy step 0 to 14, angle 0 to 87. */
+uint8_t lpmag_three_d(const uint8_t *cells, size_t length, uint64_t held, size_t step, size_t angle, uint64_t *low, uint64_t *high);
+
+/* Total counts and rate counter of the first half-spin (header bytes 2 and 3). */
+uint8_t lpmag_total(const uint8_t *cells, size_t length, uint64_t held, uint64_t *low, uint64_t *high);
+uint8_t lpmag_rate(const uint8_t *cells, size_t length, uint64_t held, uint64_t *low, uint64_t *high);
+
+/* The counts of a code that were divided by 1, 8 (pre-scaled) or 16 (Total and
+ * Rate) before they were compressed. Any other divisor: LPMAG_NO_SUCH_PLACE. */
+uint8_t lpmag_count_range(uint8_t code, uint8_t divided_by, uint64_t *low, uint64_t *high);
+
+/* The sum of two ranges: the lows added, the highs added. LPMAG_TOO_LARGE when
+ * either sum is past 64 bits. */
+uint8_t lpmag_count_sum(uint64_t low_a, uint64_t high_a, uint64_t low_b, uint64_t high_b, uint64_t *low, uint64_t *high);
+
+/* The angle 0 to 87 of an anode 0 to 15 at a spin phase 0 to 7 (000, section
+ * 2.3.2); else LPMAG_NO_SUCH_BIN. */
+uint8_t lpmag_angle(size_t anode, size_t phase);
 
 #ifdef __cplusplus
 }

@@ -1,0 +1,39 @@
+-- `angles::angle_of` meets its contract.
+-- Assumes nothing.
+use Rattle.angles.proofs.Sky.{table, can-divide, sum-small, no-anode, no-phase, at-angle}
+use native.Mathlib.Omega.{arith}
+use borrow.Author.Needs.{needs}
+use Rattle.angles.proofs.angle_of.Statement.{statement}
+use Rattle.angles.proofs.angle_of.Tie as tie
+
+returns : tie.Need-returns
+returns c = let a = c .before .args in no-anode (a .anode) (a .phase) (c .if1 .taken)
+
+returns-2 : tie.Need-returns-2
+returns-2 c = let a = c .before .before .args in no-phase (a .anode) (a .phase) (c .before .if1 .left) (c .if2 .taken)
+
+mul-row : tie.Need-mul-row
+mul-row c = search needs
+
+array-copy-out-row : tie.Need-array-copy-out-row
+array-copy-out-row c = search needs
+
+cast-t26 : tie.Need-cast-t26
+cast-t26 c = search needs
+
+div-t27 : tie.Need-div-t27
+unfolding table
+div-t27 c = let a = c .before .before .before .before .args in can-divide (a .anode) (a .phase) (c .before .before .before .if1 .left)
+
+add-t28 : tie.Need-add-t28
+unfolding table
+add-t28 c = let a = c .before .before .before .before .before .args in record { fits = omega (arith, sum-small (a .anode) (a .phase) (c .before .before .before .before .if1 .left) (c .before .before .before .if2 .left)) }
+
+returns-3 : tie.Need-returns-3
+unfolding table
+returns-3 c = let a = c .before .before .before .before .before .args in at-angle (a .anode) (a .phase) (c .before .before .before .before .if1 .left) (c .before .before .before .if2 .left)
+
+pub angle-of-spec : {M : Type 1} → statement M
+angle-of-spec =
+    tie.close
+    (tie.spec returns returns-2 mul-row array-copy-out-row cast-t26 div-t27 add-t28 returns-3)

@@ -1,0 +1,73 @@
+-- The codes, by one test a code that is computed: no range is empty, each starts where the one before it ends, all are below
+-- 524,288; and the shifts by which the code gets them lose nothing.
+-- Assumes nothing.
+use mathlib.Core.Path.{_≡_, _∙_}
+use mathlib.Core.Bool.{Bool}
+use Prim.Native.Nat.{ℕ, suc, _+_, _*_, _-_, _/_, _%_, _^_, _<_, _≤_}
+use lib.Dec.{T, eqb, leb, eqb→eq, leb→le}
+use borrow.Author.Tests.{eq-eqb, ne-eqb}
+use Rattle.tables.proofs.Upto.{both, both-left, both-right, upto-at}
+use Rattle.counts.specs.Codes.{lowest, highest, counts}
+
+-- the n-th of a code's mantissas from 16 on, shifted
+abbrev shifted : ℕ → ℕ → ℕ
+shifted n c = (n + c % 16) * 2 ^ (c / 16 - 1)
+
+right : ℕ → Bool
+right c =
+    both (leb (lowest c) (highest c))
+    (both (eqb (lowest (suc c)) (suc (highest c)))
+    (both (leb (suc (highest c)) counts)
+    (both (eqb (shifted 16 c % 2 ^ 64) (shifted 16 c))
+    (both (eqb (shifted 17 c % 2 ^ 64) (shifted 17 c)) (leb 1 (shifted 17 c))))))
+
+all-right : (c : ℕ) → c < 256 → T (right c)
+unfolding both right lowest highest
+all-right = upto-at right 256 tt
+
+pub record Code (c : ℕ) : Type 0 where
+  pub full : lowest c ≤ highest c
+  pub next : lowest (suc c) ≡ suc (highest c)
+  pub small : highest c < counts
+  pub low-kept : shifted 16 c % 2 ^ 64 ≡ shifted 16 c
+  pub high-kept : shifted 17 c % 2 ^ 64 ≡ shifted 17 c
+  pub high-some : 1 ≤ shifted 17 c
+
+pub code : (c : ℕ) → c < 256 → Code c
+unfolding right
+code c h =
+    let t1 = all-right c h in
+    let t2 = both-right (leb (lowest c) (highest c)) _ t1 in
+    let t3 = both-right (eqb (lowest (suc c)) (suc (highest c))) _ t2 in
+    let t4 = both-right (leb (suc (highest c)) counts) _ t3 in
+    let t5 = both-right (eqb (shifted 16 c % 2 ^ 64) (shifted 16 c)) _ t4 in
+    record {
+      full = leb→le _ _ (both-left (leb (lowest c) (highest c)) _ t1);
+      next = eqb→eq _ _ (both-left (eqb (lowest (suc c)) (suc (highest c))) _ t2);
+      small = leb→le _ _ (both-left (leb (suc (highest c)) counts) _ t3);
+      low-kept = eqb→eq _ _ (both-left (eqb (shifted 16 c % 2 ^ 64) (shifted 16 c)) _ t4);
+      high-kept = eqb→eq _ _ (both-left (eqb (shifted 17 c % 2 ^ 64) (shifted 17 c)) _ t5);
+      high-some = leb→le _ _ (both-right (eqb (shifted 17 c % 2 ^ 64) (shifted 17 c)) _ t5);
+    }
+
+module _ (c : ℕ) where
+  -- an exponent of 0
+  pub low-small : c / 16 ≡ 0 → c % 16 ≡ lowest c
+  unfolding lowest
+  low-small e = rw (eq-eqb (c / 16) 0 e)
+
+  pub high-small : c / 16 ≡ 0 → c % 16 ≡ highest c
+  unfolding highest
+  high-small e = rw (eq-eqb (c / 16) 0 e)
+
+  -- an exponent above it
+  pub low-shifted : c < 256 → (c / 16 ≡ 0 → ⊥) → shifted 16 c % 2 ^ 64 ≡ lowest c
+  unfolding lowest
+  low-shifted h n = code c h .low-kept ∙ rw (ne-eqb (c / 16) 0 n)
+
+  pub high-shifted : c < 256 → (c / 16 ≡ 0 → ⊥) → shifted 17 c % 2 ^ 64 - 1 ≡ highest c
+  unfolding highest
+  high-shifted h n = rw (code c h .high-kept, ne-eqb (c / 16) 0 n)
+
+  pub can-go-down : c < 256 → 1 ≤ shifted 17 c % 2 ^ 64
+  can-go-down h = rw (code c h .high-kept) (code c h .high-some)

@@ -1,0 +1,4 @@
+pub mod EachCode
+pub mod Ranges
+pub mod Added
+pub mod Single
