@@ -1,0 +1,172 @@
+-- One computed test over the table: 83 cells a type, each of 2,988 cells once; and the code finds the type of each.
+-- Assumes nothing.
+use mathlib.Core.Path.{_≡_, refl, sym, ap, subst, _∙_}
+use mathlib.Core.Bool.{Bool, true, false, cond}
+use Prim.Native.Nat.{ℕ, _+_, _*_, _-_, _%_, _/_, _<_, _≤_}
+use native.Mathlib.Omega.{arith}
+use lib.Dec.{T, eqb, ltb, eqb→eq, ltb→lt}
+use lib.ListN.{length, getD}
+use borrow.Author.Tests.{lt-ltb, le-ltb, ltb-true, ltb-false}
+use Rattle.tables.proofs.Upto.{both, both-left, both-right, upto, upto-at}
+use Rattle.carriage.specs.Carriage.{types, scienceSize, cells, threeD, rows, runs, runsIn, total, someHas, byteIn, place, carrier, byteOf, Once}
+use Rattle.carriage.specs.Numbers.{restSize, restCell}
+use Rattle.carriage.proofs.Placed.{place-had, had-place, first-is, first-none}
+use Rattle.carriage.proofs.Finding.{sampleTypes, inHalf, restType, typeOf, in-header, in-samples, in-three}
+
+-- the science byte of a type that goes to cell p
+abbrev byteFor : ℕ → ℕ → ℕ
+byteFor t p = byteIn (runsIn runs t) p
+
+-- byte k of type t goes to one of the cells, and that cell is asked back to type t and byte k
+there : ℕ → ℕ → Bool
+there t k = both (ltb (place t k) cells) (both (eqb (typeOf (place t k)) t) (eqb (byteFor t (place t k)) k))
+
+-- cell p is a byte of its type
+back : ℕ → Bool
+back p = both (ltb (typeOf p) types) (both (ltb (byteFor (typeOf p) p) scienceSize) (eqb (place (typeOf p) (byteFor (typeOf p) p)) p))
+
+-- a row: 83 bytes, all there, and the 83 cells from 83 t on are all back
+right : ℕ → Bool
+right t = both (eqb (total (runsIn runs t)) scienceSize) (upto (λ k. both (there t k) (back (t * scienceSize + k))) scienceSize)
+
+all-right : (t : ℕ) → t < types → T (right t)
+unfolding both right there back place typeOf restType sampleTypes rows runs
+all-right = upto-at right types tt
+
+-- 83 cells a type
+pub total-83 : (t : ℕ) → t < types → total (runsIn runs t) ≡ scienceSize
+unfolding right
+total-83 t h = eqb→eq _ _ (both-left (eqb (total (runsIn runs t)) scienceSize) _ (all-right t h))
+
+at : (t k : ℕ) → t < types → k < scienceSize → T (both (there t k) (back (t * scienceSize + k)))
+unfolding right
+at t k h l = upto-at (λ k. both (there t k) (back (t * scienceSize + k))) scienceSize (both-right (eqb (total (runsIn runs t)) scienceSize) _ (all-right t h)) k l
+
+record There (t k : ℕ) : Type 0 where
+  cell : place t k < cells
+  type : typeOf (place t k) ≡ t
+  byte : byteFor t (place t k) ≡ k
+
+is-there : (t k : ℕ) → t < types → k < scienceSize → There t k
+unfolding there
+is-there t k h l =
+    let a = both-left (there t k) (back (t * scienceSize + k)) (at t k h l) in
+    let b = both-right (ltb (place t k) cells) _ a in
+    record {
+      cell = ltb→lt _ _ (both-left (ltb (place t k) cells) _ a);
+      type = eqb→eq _ _ (both-left (eqb (typeOf (place t k)) t) _ b);
+      byte = eqb→eq _ _ (both-right (eqb (typeOf (place t k)) t) _ b);
+    }
+
+record Back (p : ℕ) : Type 0 where
+  type : typeOf p < types
+  byte : byteFor (typeOf p) p < scienceSize
+  is : place (typeOf p) (byteFor (typeOf p) p) ≡ p
+
+is-back : (p : ℕ) → p < cells → Back p
+unfolding back
+is-back p h =
+    let e : p / 83 * 83 + p % 83 ≡ p = omega arith in
+    let a : T (back p) = subst (λ (q : ℕ). T (back q)) e (both-right (there (p / 83) (p % 83)) (back (p / 83 * 83 + p % 83)) (at (p / 83) (p % 83) (omega arith) (omega arith))) in
+    let b = both-right (ltb (typeOf p) types) _ a in
+    record {
+      type = ltb→lt _ _ (both-left (ltb (typeOf p) types) _ a);
+      byte = ltb→lt _ _ (both-left (ltb (byteFor (typeOf p) p) scienceSize) _ b);
+      is = eqb→eq _ _ (both-right (ltb (byteFor (typeOf p) p) scienceSize) _ b);
+    }
+
+length-runs : length runs ≡ types
+unfolding runs rows
+length-runs = refl
+
+-- a type that has cell p is the one that the code finds
+record Had (t p : ℕ) : Type 0 where
+  cell : p < cells
+  type : typeOf p ≡ t
+
+had : (t p : ℕ) → t < types → someHas (runsIn runs t) p ≡ true → Had t p
+unfolding place
+had t p h e =
+    let b = had-place (runsIn runs t) p e in
+    let n = total-83 t h in
+    let i = is-there t (byteFor t p) h (omega (arith, b .0)) in
+    record { cell = subst (λ (q : ℕ). q < cells) (b .1) (i .cell); type = subst (λ (q : ℕ). typeOf q ≡ t) (b .1) (i .type) }
+
+not-had : (t p : ℕ) → t < types → (Had t p → ⊥) → someHas (runsIn runs t) p ≡ false
+not-had t p h n = go (someHas (runsIn runs t) p) refl
+  where
+    go : (b : Bool) → someHas (runsIn runs t) p ≡ b → b ≡ false
+    go true e = absurd (n (had t p h e))
+    go false e = refl
+
+-- the code finds the type that carries a cell
+pub carrier-is : (p : ℕ) → p < cells → carrier p ≡ typeOf p
+unfolding carrier place
+carrier-is p h =
+    let b = is-back p h in
+    let n = total-83 (typeOf p) (b .type) in
+    let e : someHas (runsIn runs (typeOf p)) p ≡ true = subst (λ (q : ℕ). someHas (runsIn runs (typeOf p)) q ≡ true) (b .is) (place-had (runsIn runs (typeOf p)) (byteFor (typeOf p) p) (omega (arith, b .byte))) in
+    first-is runs p (typeOf p) (omega (arith, b .type, length-runs)) e (λ u l. not-had u p (omega (arith, b .type)) (λ k. omega (arith, k .type)))
+
+-- past the cells there is none
+pub carrier-none : (p : ℕ) → cells ≤ p → carrier p ≡ types
+unfolding carrier
+carrier-none p h = first-none runs p (λ u l. not-had u p (omega (arith, length-runs)) (λ k. omega (arith, k .cell))) ∙ length-runs
+
+module _ (t k : ℕ) (h : t < types) (l : k < scienceSize) where
+  pub place-cell : place t k < cells
+  place-cell = is-there t k h l .cell
+
+  pub carrier-place : carrier (place t k) ≡ t
+  carrier-place = carrier-is (place t k) place-cell ∙ is-there t k h l .type
+
+  pub byte-place : byteOf (place t k) ≡ k
+  unfolding byteOf
+  byte-place = ap (λ (u : ℕ). byteFor u (place t k)) carrier-place ∙ is-there t k h l .byte
+
+-- no two bytes have one cell
+pub place-once : (t k u l : ℕ) → t < types → k < scienceSize → u < types → l < scienceSize → place t k ≡ place u l → (t ≡ u) × (k ≡ l)
+place-once t k u l ht hk hu hl e = (
+  sym (carrier-place t k ht hk) ∙ ap carrier e ∙ carrier-place u l hu hl,
+  sym (byte-place t k ht hk) ∙ ap byteOf e ∙ byte-place u l hu hl,
+)
+
+-- every cell is one byte of one type
+pub once : (p : ℕ) → p < cells → Once p
+unfolding byteOf
+once p h =
+    let c = carrier-is p h in
+    let b = is-back p h in
+    record {
+      is-type = rw c (b .type);
+      is-byte = rw c (b .byte);
+      is = rw c (b .is);
+      only = λ t k ht hk e. (sym (carrier-place t k ht hk) ∙ ap carrier e, sym (byte-place t k ht hk) ∙ ap byteOf e);
+    }
+
+-- what the code's two ways of finding a type answer
+pub rest-is : (x : ℕ) → x < restSize → inHalf (18 * (x / 662)) (x % 662) ≡ carrier (restCell x)
+unfolding restType
+rest-is x h = go (ltb x 4) refl
+  where
+    go : (b : Bool) → ltb x 4 ≡ b → restType x ≡ carrier (cond b x (threeD + (x - 4)))
+    go true e =
+        let l = ltb-true x 4 e in
+        sym (carrier-is x (omega arith) ∙ in-header x l)
+    go false e =
+        let l = ltb-false x 4 e in
+        let q : threeD + (x - 4) - 1664 ≡ x = omega arith in
+        sym (carrier-is (threeD + (x - 4)) (omega arith) ∙ in-three (threeD + (x - 4)) (omega arith) (omega arith) ∙ ap restType q)
+
+pub sample-is : (p : ℕ) → 4 ≤ p → p < threeD → getD sampleTypes ((p - 4) / 16) 0 ≡ carrier p
+sample-is p l h = sym (carrier-is p (omega arith) ∙ in-samples p l h)
+
+pub sample-small : (p : ℕ) → 4 ≤ p → p < threeD → getD sampleTypes ((p - 4) / 16) 0 < types
+sample-small p l h = rw (sample-is p l h) (once p (omega arith) .is-type)
+
+-- a cell below 4 or from 1,668 on as a cell beside the samples
+pub header-rest : (p : ℕ) → p < 4 → restCell p ≡ p
+header-rest p h = rw (lt-ltb p 4 h)
+
+pub three-rest : (p : ℕ) → threeD ≤ p → restCell (p - 1664) ≡ p
+three-rest p h = rw (le-ltb (p - 1664) 4 (omega arith)) (omega arith)

@@ -1,0 +1,75 @@
+-- `carriage::runs::runs_of` meets its contract: each arm is its row of the printed table.
+-- Assumes nothing.
+use mathlib.Core.Path.{_≡_, sym, ap}
+use mathlib.Core.List.{[], _∷_}
+use Prim.Native.Nat.{ℕ, zero, suc, _≤_}
+use native.Mathlib.Omega.{arith}
+use lib.Arith.{lt-of-le-ne}
+use lib.ListN.{List·getD-eq-default}
+use types.Run.{OneOf}
+use Rattle.tables.specs.Build.{build}
+use Rattle.carriage.specs.Carriage.{rows, rowOf, carries, none}
+use Rattle.carriage.specs.Numbers.{numbersOf}
+use Rattle.carriage.proofs.runs.runs_of.Statement.{statement}
+use Rattle.carriage.proofs.runs.runs_of.Tie as tie
+
+row : (k t : ℕ) → t ≡ k → numbersOf k ≡ numbersOf t
+row k t e = ap numbersOf (sym e)
+
+-- the last arm is told that t is none of those before
+abbrev NoneBelow : ℕ → ℕ → Type 0
+NoneBelow t zero = Unit
+NoneBelow t (suc n) = NoneBelow t n × (OneOf (n ∷ []) t → ⊥)
+
+none-below : (n t : ℕ) → NoneBelow t n → n ≤ t
+none-below zero t h = omega arith
+none-below (suc n) t h = omega (arith, none-below n t (h .0), lt-of-le-ne (none-below n t (h .0)) (λ e. h .1 (sym e)))
+
+above : (t : ℕ) → 36 ≤ t → numbersOf 36 ≡ numbersOf t
+unfolding numbersOf rows
+above t h =
+    let e : rowOf t ≡ carries [] none none = List·getD-eq-default rows (carries [] none none) h in
+    rw e
+
+pub runs-of-spec : {M : Type 1} → statement M
+unfolding numbersOf rows build
+runs-of-spec =
+    tie.close
+    (tie.spec
+    (λ c. row 0 (c .before .args .t) (c .match .keys1))
+    (λ c. row 1 (c .before .args .t) (c .match .keys2))
+    (λ c. row 2 (c .before .args .t) (c .match .keys3))
+    (λ c. row 3 (c .before .args .t) (c .match .keys4))
+    (λ c. row 4 (c .before .args .t) (c .match .keys5))
+    (λ c. row 5 (c .before .args .t) (c .match .keys6))
+    (λ c. row 6 (c .before .args .t) (c .match .keys7))
+    (λ c. row 7 (c .before .args .t) (c .match .keys8))
+    (λ c. row 8 (c .before .args .t) (c .match .keys9))
+    (λ c. row 9 (c .before .args .t) (c .match .keys10))
+    (λ c. row 10 (c .before .args .t) (c .match .keys11))
+    (λ c. row 11 (c .before .args .t) (c .match .keys12))
+    (λ c. row 12 (c .before .args .t) (c .match .keys13))
+    (λ c. row 13 (c .before .args .t) (c .match .keys14))
+    (λ c. row 14 (c .before .args .t) (c .match .keys15))
+    (λ c. row 15 (c .before .args .t) (c .match .keys16))
+    (λ c. row 16 (c .before .args .t) (c .match .keys17))
+    (λ c. row 17 (c .before .args .t) (c .match .keys18))
+    (λ c. row 18 (c .before .args .t) (c .match .keys19))
+    (λ c. row 19 (c .before .args .t) (c .match .keys20))
+    (λ c. row 20 (c .before .args .t) (c .match .keys21))
+    (λ c. row 21 (c .before .args .t) (c .match .keys22))
+    (λ c. row 22 (c .before .args .t) (c .match .keys23))
+    (λ c. row 23 (c .before .args .t) (c .match .keys24))
+    (λ c. row 24 (c .before .args .t) (c .match .keys25))
+    (λ c. row 25 (c .before .args .t) (c .match .keys26))
+    (λ c. row 26 (c .before .args .t) (c .match .keys27))
+    (λ c. row 27 (c .before .args .t) (c .match .keys28))
+    (λ c. row 28 (c .before .args .t) (c .match .keys29))
+    (λ c. row 29 (c .before .args .t) (c .match .keys30))
+    (λ c. row 30 (c .before .args .t) (c .match .keys31))
+    (λ c. row 31 (c .before .args .t) (c .match .keys32))
+    (λ c. row 32 (c .before .args .t) (c .match .keys33))
+    (λ c. row 33 (c .before .args .t) (c .match .keys34))
+    (λ c. row 34 (c .before .args .t) (c .match .keys35))
+    (λ c. row 35 (c .before .args .t) (c .match .keys36))
+    (λ c. above (c .before .args .t) (none-below 36 (c .before .args .t) (c .match .rest))))
