@@ -6,8 +6,27 @@
 #include <system.h>
 
 static const char *const names[FUNCTIONS] = {
-    "word16", "word24", "word32", "twelve_least", "twelve_most", "check",
-    "fields", "packet", "kind",   "range",        "samples",     "field",
+    [WORD16] = "word16",
+    [WORD24] = "word24",
+    [WORD32] = "word32",
+    [TWELVE_LEAST] = "twelve_least",
+    [TWELVE_MOST] = "twelve_most",
+    [CHECK] = "check",
+    [FIELDS] = "fields",
+    [PACKET] = "packet",
+    [KIND] = "kind",
+    [RANGE] = "range",
+    [SAMPLES] = "samples",
+    [FIELD] = "field",
+    [LAY_ELECTRONS] = "lay_electrons",
+    [CELL] = "cell",
+    [ELECTRON_SAMPLE] = "electron_sample",
+    [THREE_D] = "three_d",
+    [TOTAL] = "total",
+    [RATE] = "rate",
+    [COUNT_RANGE] = "count_range",
+    [COUNT_SUM] = "count_sum",
+    [ANGLE] = "angle",
 };
 
 const char *function_name(enum function function)
@@ -52,9 +71,9 @@ static void print_question(const struct drive *drive, const struct question *que
         print_number_line("length: ", question->length);
         print_hex_line("bytes: ", question->bytes, question->length);
     }
-    if (question->also != NULL) {
-        print_text(question->also);
-        print_number_line(": ", question->number);
+    for (size_t i = 0; i < QUESTION_ALSO && question->also[i].name != NULL; i++) {
+        print_text(question->also[i].name);
+        print_number_line(": ", question->also[i].number);
     }
 }
 
@@ -94,6 +113,32 @@ void same_rooms(struct drive *drive, const struct question *question, const stru
     stop();
 }
 
+static void print_numbers_line(const char *title, const uint64_t *numbers)
+{
+    print_text(title);
+    for (size_t i = 0; i < RANGE_NUMBERS; i++) {
+        print_text(i == 0 ? "" : " ");
+        print_number(numbers[i]);
+    }
+    print_text("\n");
+}
+
+void same_ranges(struct drive *drive, const struct question *question, const struct ranges *ranges, bool kept)
+{
+    if (kept)
+        drive->kept_ranges++;
+    const char *wrong = ranges_wrong(ranges, kept);
+    if (wrong == NULL)
+        return;
+    print_question(drive, question);
+    print_text(wrong);
+    print_text("\n(low and high are the second and the fourth number)\n");
+    print_numbers_line("as found: ", ranges->found);
+    print_numbers_line("after the first: ", ranges->first);
+    print_numbers_line("after the second: ", ranges->second);
+    stop();
+}
+
 void expect_answer(struct drive *drive, const struct question *question, uint64_t answer, uint64_t expected)
 {
     if (answer == expected)
@@ -101,6 +146,19 @@ void expect_answer(struct drive *drive, const struct question *question, uint64_
     print_question(drive, question);
     print_number_line("both answer: ", answer);
     print_number_line("but it has to be: ", expected);
+    stop();
+}
+
+void expect_range(struct drive *drive, const struct question *question, const struct ranges *ranges,
+                  uint64_t low, uint64_t high)
+{
+    if (ranges->first[LOW] == low && ranges->first[HIGH] == high)
+        return;
+    print_question(drive, question);
+    print_number_line("both give the low: ", ranges->first[LOW]);
+    print_number_line("both give the high: ", ranges->first[HIGH]);
+    print_number_line("but the low has to be: ", low);
+    print_number_line("and the high has to be: ", high);
     stop();
 }
 

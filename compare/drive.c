@@ -8,9 +8,14 @@
 _Static_assert(LPMAG_RECORD == SECOND_RECORD && LPMAG_PACKET == SECOND_PACKET &&
                    LPMAG_PACKET_AT == SECOND_PACKET_AT && LPMAG_MAG == SECOND_MAG &&
                    LPMAG_MAG_AT == SECOND_MAG_AT && LPMAG_SAMPLES == SECOND_SAMPLES &&
-                   LPMAG_FIELDS == SECOND_FIELDS && LPMAG_OTHER == SECOND_OTHER &&
-                   LPMAG_UNDEFINED == SECOND_UNDEFINED,
-               "both headers name the same sizes, places and kinds");
+                   LPMAG_SCIENCE == SECOND_SCIENCE && LPMAG_SCIENCE_AT == SECOND_SCIENCE_AT &&
+                   LPMAG_CELLS == SECOND_CELLS && LPMAG_FIELDS == SECOND_FIELDS,
+               "both headers name the same sizes and places");
+_Static_assert(LPMAG_OTHER == SECOND_OTHER && LPMAG_UNDEFINED == SECOND_UNDEFINED &&
+                   LPMAG_NO_SUCH_PLACE == SECOND_NO_SUCH_PLACE && LPMAG_ABSENT == SECOND_ABSENT &&
+                   LPMAG_SCALE_UNKNOWN == SECOND_SCALE_UNKNOWN && LPMAG_TOO_LARGE == SECOND_TOO_LARGE &&
+                   LPMAG_NO_SUCH_BIN == SECOND_NO_SUCH_BIN,
+               "both headers name the same kinds and answers");
 
 /* Prints how often something was met; ends the program if it never was. */
 static void print_met(const char *what, uint64_t times)
@@ -31,6 +36,56 @@ static uint64_t rarest(const uint64_t *times, size_t length)
     return least;
 }
 
+/* Each answer that the functions of the electrons can give. */
+static void print_answers_met(const struct drive *drive)
+{
+    enum {
+        VALUE = 1u << 0,
+        PLACE = 1u << LPMAG_NO_SUCH_PLACE,
+        ABSENT = 1u << LPMAG_ABSENT,
+        SCALE = 1u << LPMAG_SCALE_UNKNOWN,
+        LARGE = 1u << LPMAG_TOO_LARGE
+    };
+    static const struct {
+        enum function function;
+        unsigned answers;
+    } given[] = {
+        {LAY_ELECTRONS, VALUE | PLACE},
+        {CELL, VALUE | PLACE | ABSENT},
+        {ELECTRON_SAMPLE, VALUE | PLACE | ABSENT | SCALE},
+        {THREE_D, VALUE | PLACE | ABSENT},
+        {TOTAL, VALUE | PLACE | ABSENT},
+        {RATE, VALUE | PLACE | ABSENT},
+        {COUNT_RANGE, VALUE | PLACE},
+        {COUNT_SUM, VALUE | LARGE},
+    };
+    for (size_t i = 0; i < sizeof given / sizeof given[0]; i++)
+        for (unsigned answer = 0; answer <= LPMAG_TOO_LARGE; answer++)
+            if (given[i].answers >> answer & 1) {
+                print_text(function_name(given[i].function));
+                print_text(" with answer ");
+                print_number(answer);
+                print_met("", drive->answers[given[i].function][answer]);
+            }
+}
+
+static void print_electrons_met(const struct drive *drive)
+{
+    print_answers_met(drive);
+    print_met("frames laid, of the rarest type among 0 to 35", rarest(drive->laid, 36));
+    print_met("accumulations laid whole", drive->accumulations);
+    print_met("raw cells, of the rarest", rarest(drive->cells_given, 2988));
+    print_met("raw cells absent, of the rarest", rarest(drive->cells_absent, 2988));
+    print_met("samples as they are, of the rarest bin among 0 to 14", rarest(drive->samples_plain, 15));
+    print_met("samples pre-scaled, of the rarest bin among 0 to 5", rarest(drive->samples_scaled, 6));
+    print_met("samples pre-scaled, of the rarest bin among 7 and 8", rarest(drive->samples_scaled + 7, 2));
+    print_met("sums past 64 bits in the low alone", drive->sums_past[true][false]);
+    print_met("sums past 64 bits in the high alone", drive->sums_past[false][true]);
+    print_met("sums past 64 bits in both", drive->sums_past[true][true]);
+    print_met("anodes and phases, of the rarest angle among 0 to 87", rarest(drive->angles, 88));
+    print_met("anodes and phases of no such bin", drive->angles[LPMAG_NO_SUCH_BIN]);
+}
+
 static void print_all_met(const struct drive *drive)
 {
     for (enum function function = 0; function < FUNCTIONS; function++) {
@@ -38,6 +93,7 @@ static void print_all_met(const struct drive *drive)
         print_met(function_name(function), drive->calls[function]);
     }
     print_met("rooms that had to stay as found", drive->kept_rooms);
+    print_met("ranges lent that had to stay as found", drive->kept_ranges);
     print_met("rooms of another size, refusal 1", drive->refusals[1]);
     print_met("records", drive->records);
     print_met("records that pass", drive->refusals[0]);
@@ -51,6 +107,7 @@ static void print_all_met(const struct drive *drive)
     print_met("undefined packets", drive->kinds[LPMAG_UNDEFINED]);
     print_met("MAG bytes, of the rarest range among 0 to 7", rarest(drive->ranges, 8));
     print_met("MAG bytes or rooms of no such place", drive->ranges[SECOND_NO_SUCH_PLACE]);
+    print_electrons_met(drive);
 }
 
 int main(int argc, char **argv)
@@ -67,6 +124,9 @@ int main(int argc, char **argv)
     drive_words(&drive);
     drive_record(&drive);
     drive_mag(&drive);
+    drive_cells(&drive);
+    drive_counts(&drive);
+    drive_questions(&drive);
 
     print_all_met(&drive);
     print_text("compare: all equal\n");

@@ -9,6 +9,7 @@
 
 #include "../include/lpmag.h"
 #include "second.h"
+#include "second_electrons.h"
 
 #include <stdbool.h>
 #include <stddef.h>
@@ -28,6 +29,15 @@ enum function {
     RANGE,
     SAMPLES,
     FIELD,
+    LAY_ELECTRONS,
+    CELL,
+    ELECTRON_SAMPLE,
+    THREE_D,
+    TOTAL,
+    RATE,
+    COUNT_RANGE,
+    COUNT_SUM,
+    ANGLE,
     FUNCTIONS
 };
 
@@ -40,10 +50,22 @@ struct drive {
     /* What was met, for the end: a comparison that saw nothing proves nothing. */
     uint64_t calls[FUNCTIONS];                 /* pairs of calls */
     uint64_t kept_rooms;                       /* rooms that had to stay as found */
+    uint64_t kept_ranges;                      /* numbers lent for a range, likewise */
     uint64_t records;                          /* through every function of a record */
     uint64_t refusals[12];                     /* by number; 0 where a record passes */
     uint64_t kinds[LPMAG_UNDEFINED + 1];       /* of whole packets */
     uint64_t ranges[SECOND_NO_SUCH_PLACE + 1]; /* answered for samples */
+
+    /* And of the electrons. */
+    uint64_t answers[FUNCTIONS][LPMAG_TOO_LARGE + 1]; /* of each function but the angle */
+    uint64_t laid[36];                                /* frames, by type */
+    uint64_t accumulations;                           /* laid whole */
+    uint64_t cells_given[2988];                       /* raw, by cell */
+    uint64_t cells_absent[2988];
+    uint64_t samples_plain[15]; /* by bin */
+    uint64_t samples_scaled[15];
+    uint64_t sums_past[2][2]; /* whether the lows' sum is past 64 bits, and the highs' */
+    uint64_t angles[LPMAG_NO_SUCH_BIN + 1];
 };
 
 /* Names what is compared next, in the output too: should an implementation break
@@ -51,23 +73,29 @@ struct drive {
 void begin(struct drive *drive, const char *phase);
 
 /* One question to both implementations. */
+#define QUESTION_ALSO 4
 struct question {
     enum function function;
-    const uint8_t *bytes; /* the record, packet, MAG bytes or any bytes */
+    const uint8_t *bytes; /* the record, packet, MAG bytes, science, cells or any bytes */
     size_t length;
-    const char *also; /* the name of a further argument, or null */
-    uint64_t number;  /* that argument */
+    struct {
+        const char *name;
+        uint64_t number;
+    } also[QUESTION_ALSO]; /* further arguments, up to the first without a name */
 };
 
 /* Counts a pair of answers; where they differ, reports it and ends the program. */
 void same_answer(struct drive *drive, const struct question *question, uint64_t first, uint64_t second);
 
-/* Compares the rooms that were lent for it, which have to be as found if `kept`. */
+/* Compares what was lent for it, which has to be as found if `kept`. */
 void same_rooms(struct drive *drive, const struct question *question, const struct rooms *rooms, bool kept);
+void same_ranges(struct drive *drive, const struct question *question, const struct ranges *ranges, bool kept);
 
 /* What both agree on is held against what the papers, or the way the input was
  * made, tell of it: an error that both make shows there. */
 void expect_answer(struct drive *drive, const struct question *question, uint64_t answer, uint64_t expected);
+void expect_range(struct drive *drive, const struct question *question, const struct ranges *ranges,
+                  uint64_t low, uint64_t high);
 void expect_bytes(struct drive *drive, const struct question *question, const char *what,
                   const uint8_t *found, const uint8_t *expected, size_t length);
 
@@ -75,6 +103,9 @@ void expect_bytes(struct drive *drive, const struct question *question, const ch
 void drive_words(struct drive *drive);
 void drive_record(struct drive *drive);
 void drive_mag(struct drive *drive);
+void drive_cells(struct drive *drive);
+void drive_counts(struct drive *drive);
+void drive_questions(struct drive *drive);
 
 /* The range and the samples of MAG bytes, with a room of so many numbers. */
 void compare_mag(struct drive *drive, const uint8_t *mag, size_t length, size_t room_numbers);

@@ -6,7 +6,7 @@
 
 void compare_mag(struct drive *drive, const uint8_t *mag, size_t length, size_t room_numbers)
 {
-    struct question question = {RANGE, mag, length, NULL, 0};
+    struct question question = {RANGE, mag, length, {{NULL, 0}}};
     uint8_t range = lpmag_range(mag, length);
     same_answer(drive, &question, range, second_range(mag, length));
 
@@ -14,7 +14,7 @@ void compare_mag(struct drive *drive, const uint8_t *mag, size_t length, size_t 
     rooms_make(&rooms, &drive->random, room_numbers * sizeof(int16_t));
     uint8_t first = lpmag_samples(mag, length, room_of_numbers(&rooms, &rooms.first), room_numbers);
     uint8_t second = second_samples(mag, length, room_of_numbers(&rooms, &rooms.second), room_numbers);
-    question = (struct question){SAMPLES, mag, length, "room", room_numbers};
+    question = (struct question){SAMPLES, mag, length, {{"room", room_numbers}}};
     same_answer(drive, &question, first, second);
     expect_answer(drive, &question, first, room_numbers == LPMAG_SAMPLES ? range : SECOND_NO_SUCH_PLACE);
     same_rooms(drive, &question, &rooms, first == SECOND_NO_SUCH_PLACE);
@@ -34,7 +34,7 @@ static void compare_sizes(struct drive *drive)
                 const uint8_t *mag = lend_bytes(&drive->random, made, lengths[j]);
                 compare_mag(drive, mag, lengths[j], rooms[k]);
                 if (lengths[j] > 0)
-                    expect_bytes(drive, &(struct question){SAMPLES, mag, lengths[j], "room", rooms[k]},
+                    expect_bytes(drive, &(struct question){SAMPLES, mag, lengths[j], {{"room", rooms[k]}}},
                                  "the MAG bytes were changed", mag, made, lengths[j]);
             }
 }
@@ -56,7 +56,7 @@ static void compare_every_number(struct drive *drive)
         const uint8_t *mag = lend_bytes(&drive->random, made, sizeof made);
         compare_mag(drive, mag, sizeof made, LPMAG_SAMPLES);
 
-        struct question question = {SAMPLES, mag, sizeof made, "room", LPMAG_SAMPLES};
+        struct question question = {SAMPLES, mag, sizeof made, {{"room", LPMAG_SAMPLES}}};
         expect_answer(drive, &question, lpmag_samples(mag, sizeof made, samples, LPMAG_SAMPLES), status & 7);
         for (unsigned k = 0; k < LPMAG_SAMPLES; k++)
             expect_answer(drive, &question, (uint64_t)(samples[k] + 2048), numbers[k]);

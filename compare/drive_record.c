@@ -72,7 +72,7 @@ static void fields_of(const struct content *content, uint8_t *fields)
 static void compare_fields(struct drive *drive, const uint8_t *record, size_t length, size_t room_length,
                            uint8_t refusal, const struct content *content)
 {
-    struct question question = {FIELDS, record, length, "room", room_length};
+    struct question question = {FIELDS, record, length, {{"room", room_length}}};
     struct rooms rooms;
     rooms_make(&rooms, &drive->random, room_length);
     uint8_t first = lpmag_fields(record, length, room_of_bytes(&rooms, &rooms.first), room_length);
@@ -93,7 +93,7 @@ static void compare_fields(struct drive *drive, const uint8_t *record, size_t le
 static void compare_packet(struct drive *drive, const uint8_t *record, size_t length, size_t room_length,
                            uint8_t refusal)
 {
-    struct question question = {PACKET, record, length, "room", room_length};
+    struct question question = {PACKET, record, length, {{"room", room_length}}};
     struct rooms rooms;
     rooms_make(&rooms, &drive->random, room_length);
     uint8_t first = lpmag_packet(record, length, room_of_bytes(&rooms, &rooms.first), room_length);
@@ -112,7 +112,7 @@ static void compare_kind(struct drive *drive, const uint8_t *packet, size_t leng
 {
     uint8_t first = lpmag_kind(packet, length);
     uint8_t second = second_kind(packet, length);
-    struct question question = {KIND, packet, length, NULL, 0};
+    struct question question = {KIND, packet, length, {{NULL, 0}}};
     same_answer(drive, &question, first, second);
     if (length == LPMAG_PACKET)
         drive->kinds[first]++;
@@ -126,7 +126,7 @@ static uint8_t compare_record(struct drive *drive, const uint8_t *made, size_t l
                               const struct content *content)
 {
     const uint8_t *record = lend_bytes(&drive->random, made, length);
-    struct question question = {CHECK, record, length, NULL, 0};
+    struct question question = {CHECK, record, length, {{NULL, 0}}};
     uint8_t refusal = lpmag_check(record, length);
     same_answer(drive, &question, refusal, second_check(record, length));
     if (expected != ANY)

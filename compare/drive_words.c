@@ -5,7 +5,7 @@
 
 static void compare_place(struct drive *drive, const uint8_t *bytes, size_t length, size_t place)
 {
-    struct question question = {WORD16, bytes, length, "place", place};
+    struct question question = {WORD16, bytes, length, {{"place", place}}};
     same_answer(drive, &question, lpmag_word16(bytes, length, place), second_word16(bytes, length, place));
     question.function = WORD24;
     same_answer(drive, &question, lpmag_word24(bytes, length, place), second_word24(bytes, length, place));
@@ -66,7 +66,7 @@ static void compare_ends(struct drive *drive)
     for (size_t length = 0; length <= sizeof ones; length++) {
         const uint8_t *bytes = lend_bytes(&drive->random, ones, length);
         for (size_t place = 0; place <= length + 20; place++) {
-            struct question question = {WORD16, bytes, length, "place", place};
+            struct question question = {WORD16, bytes, length, {{"place", place}}};
             compare_place(drive, bytes, length, place);
             expect_answer(drive, &question, lpmag_word16(bytes, length, place),
                           place + 2 <= length ? 0xFFFF : 0);
@@ -94,9 +94,9 @@ static void compare_three_bytes(struct drive *drive)
     for (uint32_t content = 0; content < 1u << 24; content++) {
         const uint8_t bytes[3] = {(uint8_t)(content >> 16), (uint8_t)(content >> 8), (uint8_t)content};
         uint32_t least[2], most[2];
-        struct question question = {TWELVE_LEAST, bytes, sizeof bytes, "place", 0};
+        struct question question = {TWELVE_LEAST, bytes, sizeof bytes, {{"place", 0}}};
         for (size_t k = 0; k < 2; k++) {
-            question.number = k;
+            question.also[0].number = k;
             question.function = TWELVE_LEAST;
             least[k] = lpmag_twelve_least(bytes, sizeof bytes, k);
             same_answer(drive, &question, least[k], second_twelve_least(bytes, sizeof bytes, k));
@@ -104,7 +104,7 @@ static void compare_three_bytes(struct drive *drive)
             most[k] = lpmag_twelve_most(bytes, sizeof bytes, k);
             same_answer(drive, &question, most[k], second_twelve_most(bytes, sizeof bytes, k));
         }
-        question.also = NULL;
+        question.also[0].name = NULL;
         expect_answer(drive, &question, most[0] << 12 | most[1], content);
         question.function = TWELVE_LEAST;
         expect_answer(drive, &question, least[1] << 12 | least[0],
@@ -134,7 +134,7 @@ static void compare_examples(struct drive *drive)
             bool least = examples[i].function == TWELVE_LEAST;
             uint16_t first = least ? lpmag_twelve_least(bytes, 3, k) : lpmag_twelve_most(bytes, 3, k);
             uint16_t second = least ? second_twelve_least(bytes, 3, k) : second_twelve_most(bytes, 3, k);
-            struct question question = {examples[i].function, bytes, 3, "place", k};
+            struct question question = {examples[i].function, bytes, 3, {{"place", k}}};
             same_answer(drive, &question, first, second);
             expect_answer(drive, &question, first, (uint64_t)(examples[i].samples[k] + 2048));
         }

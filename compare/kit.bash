@@ -1,5 +1,6 @@
-# Sourced by the scripts beside it: where the kit's compiler, linker and emulator
-# are. They stand beside the real file of `rt`.
+# Sourced by the scripts beside it and by bench/run: where the kit's compiler,
+# linker and emulator are, which stand beside the real file of `rt`, and how C is
+# compiled.
 
 if ! command -v rt >/dev/null; then
     echo "compare: rt was not found; install Rattle's kit and put rt on the PATH" >&2
@@ -14,3 +15,11 @@ if [ ! -x "$toolchain/bin/clang" ] || [ ! -x "$link" ]; then
     echo "compare: the kit that holds rt has no compiler or linker for this machine ($machine)" >&2
     exit 1
 fi
+freestanding=$(cd "$(dirname "${BASH_SOURCE[0]}")" && pwd)/freestanding
+
+# compile_c SOURCE OBJECT
+compile_c() {
+    "$toolchain/bin/clang" --target="$target" -std=c11 -O3 -ffreestanding \
+        -Wall -Wextra -Wpedantic -Wshadow -Wconversion -Werror \
+        -I "$freestanding" -c "$1" -o "$2"
+}

@@ -75,3 +75,37 @@ const char *rooms_wrong(const struct rooms *rooms, bool kept)
         return "the rooms differ";
     return NULL;
 }
+
+void ranges_make(struct ranges *ranges, struct random *random)
+{
+    for (size_t i = 0; i < RANGE_NUMBERS; i++)
+        ranges->found[i] = ranges->first[i] = ranges->second[i] = random_next(random);
+}
+
+static bool number_changed(const uint64_t *now, const struct ranges *ranges, size_t at)
+{
+    return now[at] != ranges->found[at];
+}
+
+static bool numbers_changed_around(const uint64_t *now, const struct ranges *ranges)
+{
+    return number_changed(now, ranges, LOW - 1) || number_changed(now, ranges, LOW + 1) ||
+           number_changed(now, ranges, HIGH + 1);
+}
+
+const char *ranges_wrong(const struct ranges *ranges, bool kept)
+{
+    const uint64_t *first = ranges->first;
+    const uint64_t *second = ranges->second;
+    if (numbers_changed_around(first, ranges))
+        return "the first changes numbers that weren't lent to it";
+    if (numbers_changed_around(second, ranges))
+        return "the second changes numbers that weren't lent to it";
+    if (kept && (number_changed(first, ranges, LOW) || number_changed(first, ranges, HIGH)))
+        return "the first changes a number that has to stay as found";
+    if (kept && (number_changed(second, ranges, LOW) || number_changed(second, ranges, HIGH)))
+        return "the second changes a number that has to stay as found";
+    if (first[LOW] != second[LOW] || first[HIGH] != second[HIGH])
+        return "the ranges differ";
+    return NULL;
+}

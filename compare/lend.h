@@ -1,5 +1,6 @@
-/* What is lent to the functions that are compared: bytes to read, and rooms to
- * write into, one for each implementation with the same dirt in and around it. */
+/* What is lent to the functions that are compared: bytes to read, and rooms and
+ * numbers to write into, one for each implementation with the same dirt in and
+ * around it. */
 #ifndef LEND_H
 #define LEND_H
 
@@ -11,7 +12,7 @@
 
 /* The most bytes that can be lent at a time, to read and as a room. */
 #define LEND_BYTES 4096
-#define LEND_ROOM 512
+#define LEND_ROOM 3072
 
 /* A copy of at most LEND_BYTES bytes. Half the time it stands right before a page
  * that can't be read, so that reading past its end ends the program, else at any
@@ -45,5 +46,20 @@ int16_t *room_of_numbers(const struct rooms *rooms, union lent *lent);
 /* Null if both rooms have the same content, nothing around them changed and,
  * where `kept`, the rooms themselves didn't; else what went wrong. */
 const char *rooms_wrong(const struct rooms *rooms, bool kept);
+
+/* Two numbers lent for a range, with others before, between and after them that
+ * nobody may change. */
+enum { LOW = 1, HIGH = 3, RANGE_NUMBERS = 5 };
+
+struct ranges {
+    uint64_t found[RANGE_NUMBERS];
+    uint64_t first[RANGE_NUMBERS];
+    uint64_t second[RANGE_NUMBERS];
+};
+
+void ranges_make(struct ranges *ranges, struct random *random);
+
+/* As rooms_wrong. */
+const char *ranges_wrong(const struct ranges *ranges, bool kept);
 
 #endif

@@ -16,6 +16,14 @@ int memcmp(const void *one, const void *other, size_t length);
 void *mmap(void *wanted, size_t length, int protection, int flags, int file, long offset);
 int mprotect(void *start, size_t length, int protection);
 
+struct timespec {
+    long tv_sec;
+    long tv_nsec;
+};
+int clock_gettime(int clock, struct timespec *time);
+
+#define CLOCK_MONOTONIC 1
+
 #define PROT_NONE 0
 #define PROT_READ 1
 #define PROT_WRITE 2

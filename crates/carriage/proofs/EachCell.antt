@@ -6,7 +6,7 @@ use Prim.Native.Nat.{ℕ, _+_, _*_, _-_, _%_, _/_, _<_, _≤_}
 use native.Mathlib.Omega.{arith}
 use lib.Dec.{T, eqb, ltb, eqb→eq, ltb→lt}
 use lib.ListN.{length, getD}
-use borrow.Author.Tests.{lt-ltb, le-ltb, ltb-true, ltb-false}
+use borrow.Author.Tests.{eq-eqb, ne-eqb, lt-ltb, le-ltb, ltb-true, ltb-false}
 use Rattle.tables.proofs.Upto.{both, both-left, both-right, upto, upto-at}
 use Rattle.carriage.specs.Carriage.{types, scienceSize, cells, threeD, rows, runs, runsIn, total, someHas, byteIn, place, carrier, byteOf, Once}
 use Rattle.carriage.specs.Numbers.{restSize, restCell}
@@ -170,3 +170,31 @@ header-rest p h = rw (lt-ltb p 4 h)
 
 pub three-rest : (p : ℕ) → threeD ≤ p → restCell (p - 1664) ≡ p
 three-rest p h = rw (le-ltb (p - 1664) 4 (omega arith)) (omega arith)
+
+-- no type above 36 is ever named
+pub carrier-small : (p : ℕ) → carrier p ≤ types
+carrier-small p = go (ltb p cells) refl
+  where
+    go : (b : Bool) → ltb p cells ≡ b → carrier p ≤ types
+    go true e = omega (arith, once p (ltb-true p cells e) .is-type)
+    go false e = omega (arith, carrier-none p (ltb-false p cells e))
+
+-- the runs of a type have exactly the cells that it carries
+carried-had : (t p : ℕ) → t < types → carrier p ≡ t → someHas (runsIn runs t) p ≡ true
+unfolding place
+carried-had t p h e = go (ltb p cells) refl
+  where
+    go : (b : Bool) → ltb p cells ≡ b → someHas (runsIn runs t) p ≡ true
+    go true l =
+        let o = once p (ltb-true p cells l) in
+        let n = total-83 t h in
+        subst (λ (q : ℕ). someHas (runsIn runs t) q ≡ true) (ap (λ (u : ℕ). place u (byteOf p)) (sym e) ∙ o .is)
+        (place-had (runsIn runs t) (byteOf p) (omega (arith, o .is-byte)))
+    go false l = let n = carrier-none p (ltb-false p cells l) in absurd (omega arith)
+
+pub had-is : (t p : ℕ) → t < types → someHas (runsIn runs t) p ≡ eqb (carrier p) t
+had-is t p h = go (someHas (runsIn runs t) p) refl
+  where
+    go : (b : Bool) → someHas (runsIn runs t) p ≡ b → b ≡ eqb (carrier p) t
+    go true x = let k = had t p h x in sym (eq-eqb (carrier p) t (carrier-is p (k .cell) ∙ k .type))
+    go false x = sym (ne-eqb (carrier p) t (λ e. let y = carried-had t p h e in let n : _≡_ {A = ℕ} 0 1 = cc in absurd (omega arith)))

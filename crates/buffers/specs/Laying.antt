@@ -1,0 +1,15 @@
+-- A list with another laid over it from a place on.
+-- Assumes nothing.
+use Prim.Native.Nat.{ℕ, _+_}
+use mathlib.Core.Bool.{cond}
+use mathlib.Core.List.{List, _++_}
+use lib.Dec.{leb}
+use lib.ListN.{length, take, drop}
+
+-- d with s over it from place `at` on
+unfoldable pub patch {ℓ} : {A : Type ℓ} → List A → ℕ → List A → List A
+patch d at s = take at d ++ (s ++ drop (at + length s) d)
+
+-- where it lies wholly inside; else d as it was
+abbrev pub laid {ℓ} : {A : Type ℓ} → List A → List A → ℕ → List A
+laid s d at = cond (leb (at + length s) (length d)) (patch d at s) d

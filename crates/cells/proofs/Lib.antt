@@ -1,0 +1,6 @@
+pub mod Pairs
+pub mod Turns
+pub mod EachByte
+pub mod Frames
+pub mod Answers
+pub mod Single

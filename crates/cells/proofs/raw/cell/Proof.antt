@@ -1,0 +1,35 @@
+-- `cells::raw::cell` meets its contract.
+-- Assumes nothing.
+use denote.Ref.{now}
+use Rattle.cells.proofs.Answers.{no-size, no-mark, no-cell, is-absent, is-held}
+use borrow.Author.Tests.{not-true, not-false}
+use native.Mathlib.Omega.{arith}
+use borrow.Author.Needs.{needs}
+use Rattle.cells.proofs.raw.cell.Statement.{statement}
+use Rattle.cells.proofs.raw.cell.Tie as tie
+
+returns : tie.Need-returns
+returns c = let a = c .before .before .args in no-size (now (a .cells)) (a .held) (a .p) (c .if1 .taken)
+
+returns-2 : tie.Need-returns-2
+returns-2 c = let a = c .before .before .before .args in no-mark (now (a .cells)) (a .held) (a .p) (c .before .if1 .left) (omega arith)
+
+returns-3 : tie.Need-returns-3
+returns-3 c = let a = c .before .before .before .before .args in no-cell (now (a .cells)) (a .held) (a .p) (c .before .before .if1 .left) (omega arith) (omega arith)
+
+has-requires : tie.Need-has-requires
+has-requires c κs = search needs
+
+returns-4 : tie.Need-returns-4
+returns-4 c = let a = c .before .before .before .before .before .before .args in is-absent (now (a .cells)) (a .held) (a .p) (omega arith) (omega arith) (omega arith) (c .before .has .result) (c .before .has .ensures) (not-true _ (c .if4 .taken))
+
+shared-slice-read-t8 : tie.Need-shared-slice-read-t8
+shared-slice-read-t8 c = search needs
+
+returns-5 : tie.Need-returns-5
+returns-5 c = let a = c .before .before .before .before .before .before .before .args in is-held (now (a .cells)) (a .held) (a .p) (omega arith) (omega arith) (omega arith) (c .before .before .has .result) (c .before .before .has .ensures) (not-false _ (c .before .if4 .left))
+
+pub cell-spec : {M : Type 1} → statement M
+cell-spec =
+    tie.close
+    (tie.spec returns returns-2 returns-3 has-requires returns-4 shared-slice-read-t8 returns-5)

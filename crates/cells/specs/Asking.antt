@@ -1,0 +1,58 @@
+-- What may be said of a cell (01, "Counts" and the last paragraph of "Angles"): "no such place", which is tested before "absent".
+-- Assumes nothing.
+use Prim.Native.Nat.{ℕ, _/_, _%_, _^_}
+use mathlib.Core.Bool.{Bool, true, false, cond, _&&_}
+use mathlib.Core.List.{List}
+use mathlib.Core.Option.{Option, none, some}
+use mathlib.Core.Path.{_≡_}
+use lib.Dec.{eqb, ltb}
+use lib.ListN.{length, getD}
+use Rattle.carriage.specs.Carriage.{types, cells, carrier}
+use Rattle.cells.specs.Laying.{cellsSize}
+use Rattle.cells.specs.declared.raw.Raw.{Raw}
+use Rattle.cells.specs.declared.raw.Raw.the-variants.{Byte, Absent, NoSuchPlace}
+
+-- 01's words, in the order in which they are tested
+pub data Words : Type 0 where
+  noSuchPlace : Words
+  absent : Words
+  scaleUnknown : Words
+  given : Words
+
+abbrev pub said : Bool → Bool → Bool → Words
+said place held known = cond place (cond held (cond known given scaleUnknown) absent) noSuchPlace
+
+-- the frame of type t is held when the bit of weight 2^t is set
+abbrev pub holds : ℕ → ℕ → Bool
+holds held t = eqb (held / 2 ^ t % 2) 1
+
+-- the frame that carries cell p
+abbrev pub holdsCell : ℕ → ℕ → Bool
+holdsCell held p = holds held (carrier p)
+
+-- cells of their size, and no "held mark above type 35"
+abbrev pub askable : List ℕ → ℕ → Bool
+askable c held = eqb (length c) cellsSize && ltb held (2 ^ types)
+
+abbrev pub isCell : List ℕ → ℕ → ℕ → Bool
+isCell c held p = askable c held && ltb p cells
+
+unfoldable pub cellOf : List ℕ → ℕ → ℕ → Raw
+cellOf c held p = cond (isCell c held p) (cond (holdsCell held p) (Byte (getD c p 0)) Absent) NoSuchPlace
+
+-- the words of an answer, and the byte that it gives
+unfoldable pub rawSaid : Raw → Words
+rawSaid (Byte b) = given
+rawSaid Absent = absent
+rawSaid NoSuchPlace = noSuchPlace
+
+unfoldable pub byteGiven : Raw → Option ℕ
+byteGiven (Byte b) = some b
+byteGiven Absent = none
+byteGiven NoSuchPlace = none
+
+-- one answer; and its words and byte, which follow
+pub record CellIs (c : List ℕ) (held p : ℕ) (r : Raw) : Type 0 where
+  pub is : r ≡ cellOf c held p
+  pub words : rawSaid r ≡ said (isCell c held p) (holdsCell held p) true
+  pub byte : byteGiven r ≡ cond (isCell c held p && holdsCell held p) (some (getD c p 0)) none

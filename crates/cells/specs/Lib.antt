@@ -1,0 +1,3 @@
+pub mod Laying
+pub mod Runs
+pub mod Asking
