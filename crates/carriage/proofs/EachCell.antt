@@ -8,7 +8,7 @@ use lib.Dec.{T, eqb, ltb, eqb→eq, ltb→lt}
 use lib.ListN.{length, getD}
 use borrow.Author.Tests.{eq-eqb, ne-eqb, lt-ltb, le-ltb, ltb-true, ltb-false}
 use Rattle.tables.proofs.Upto.{both, both-left, both-right, upto, upto-at}
-use Rattle.carriage.specs.Carriage.{types, scienceSize, cells, threeD, rows, runs, runsIn, total, someHas, byteIn, place, carrier, byteOf, Once}
+use Rattle.carriage.specs.Carriage.{samplesIn, types, scienceSize, cells, threeD, rows, runs, runsIn, total, someHas, byteIn, place, carrier, byteOf, Once}
 use Rattle.carriage.specs.Numbers.{restSize, restCell}
 use Rattle.carriage.proofs.Placed.{place-had, had-place, first-is, first-none}
 use Rattle.carriage.proofs.Finding.{sampleTypes, inHalf, restType, typeOf, in-header, in-samples, in-three}
@@ -30,7 +30,7 @@ right : ℕ → Bool
 right t = both (eqb (total (runsIn runs t)) scienceSize) (upto (λ k. both (there t k) (back (t * scienceSize + k))) scienceSize)
 
 all-right : (t : ℕ) → t < types → T (right t)
-unfolding both right there back place typeOf restType sampleTypes rows runs
+unfolding both right there back place typeOf restType sampleTypes samplesIn rows runs
 all-right = upto-at right types tt
 
 -- 83 cells a type

@@ -2,5 +2,6 @@ pub mod Pairs
 pub mod Turns
 pub mod EachByte
 pub mod Frames
+pub mod Laws
 pub mod Answers
 pub mod Single

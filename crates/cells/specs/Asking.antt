@@ -22,13 +22,13 @@ pub data Words : Type 0 where
 abbrev pub said : Bool → Bool → Bool → Words
 said place held known = cond place (cond held (cond known given scaleUnknown) absent) noSuchPlace
 
--- the frame of type t is held when the bit of weight 2^t is set
-abbrev pub holds : ℕ → ℕ → Bool
-holds held t = eqb (held / 2 ^ t % 2) 1
+-- bit k of a number, of weight 2^k
+abbrev pub bitSet : ℕ → ℕ → Bool
+bitSet n k = eqb (n / 2 ^ k % 2) 1
 
--- the frame that carries cell p
+-- the frame that carries cell p is held when the mark of its type is set
 abbrev pub holdsCell : ℕ → ℕ → Bool
-holdsCell held p = holds held (carrier p)
+holdsCell held p = bitSet held (carrier p)
 
 -- cells of their size, and no "held mark above type 35"
 abbrev pub askable : List ℕ → ℕ → Bool

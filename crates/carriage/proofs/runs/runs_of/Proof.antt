@@ -8,7 +8,7 @@ use lib.Arith.{lt-of-le-ne}
 use lib.ListN.{List·getD-eq-default}
 use types.Run.{OneOf}
 use Rattle.tables.specs.Build.{build}
-use Rattle.carriage.specs.Carriage.{rows, rowOf, carries, none}
+use Rattle.carriage.specs.Carriage.{samplesIn, rows, rowOf, carries, none}
 use Rattle.carriage.specs.Numbers.{numbersOf}
 use Rattle.carriage.proofs.runs.runs_of.Statement.{statement}
 use Rattle.carriage.proofs.runs.runs_of.Tie as tie
@@ -32,7 +32,7 @@ above t h =
     rw e
 
 pub runs-of-spec : {M : Type 1} → statement M
-unfolding numbersOf rows build
+unfolding numbersOf samplesIn rows build
 runs-of-spec =
     tie.close
     (tie.spec

@@ -1,0 +1,19 @@
+-- `electrons::questions::header_count` meets its contract.
+-- Assumes nothing.
+use denote.Ref.{now}
+use Rattle.electrons.proofs.Told.{header-told}
+use borrow.Author.Needs.{needs}
+use Rattle.electrons.proofs.questions.header_count.Statement.{statement}
+use Rattle.electrons.proofs.questions.header_count.Tie as tie
+
+cell-requires : tie.Need-cell-requires
+cell-requires c κs = search needs
+
+meaning-of-requires : tie.Need-meaning-of-requires
+meaning-of-requires c κs = search needs
+
+returns : tie.Need-returns
+returns c = let k = c .before .before .before in let a = k .args in header-told (now (a .cells)) (a .held) (a .p) (c .before .cell .result) (c .meaning-of .result) (k .pre) (c .before .cell .ensures .is) (c .meaning-of .ensures)
+
+pub header-count-spec : {M : Type 1} → statement M
+header-count-spec = tie.close (tie.spec cell-requires meaning-of-requires returns)

@@ -1,0 +1,22 @@
+-- `electrons::questions::three_d` meets its contract.
+-- Assumes nothing.
+use denote.Ref.{now}
+use Rattle.electrons.proofs.Told.{three-told}
+use borrow.Author.Needs.{needs}
+use Rattle.electrons.proofs.questions.three_d.Statement.{statement}
+use Rattle.electrons.proofs.questions.three_d.Tie as tie
+
+three-place-requires : tie.Need-three-place-requires
+three-place-requires c κs = search needs
+
+cell-requires : tie.Need-cell-requires
+cell-requires c κs = search needs
+
+meaning-of-requires : tie.Need-meaning-of-requires
+meaning-of-requires c κs = search needs
+
+returns : tie.Need-returns
+returns c = let a = c .before .before .before .before .args in three-told (now (a .cells)) (a .held) (a .step) (a .angle) (c .before .before .three-place .result) (c .before .cell .result) (c .meaning-of .result) (c .before .before .three-place .ensures) (c .before .cell .ensures .is) (c .meaning-of .ensures)
+
+pub three-d-spec : {M : Type 1} → statement M
+three-d-spec = tie.close (tie.spec three-place-requires cell-requires meaning-of-requires returns)

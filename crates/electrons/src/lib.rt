@@ -1,0 +1,10 @@
+// Every question about the counts of an accumulation (01, "Counts"). `held` has bit u set when the frame of type u is held.
+mod places;
+mod questions;
+mod scale;
+
+pub use questions::Count;
+pub use questions::rate;
+pub use questions::sample;
+pub use questions::three_d;
+pub use questions::total;
