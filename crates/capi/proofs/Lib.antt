@@ -1,4 +1,5 @@
 pub mod Encoded
 pub mod Outcomes
 pub mod Places
+pub mod Counts
 pub mod Single

@@ -1,7 +1,7 @@
 -- One answer, and one content of each room: any two outcomes that a promise allows are equal. (The functions that lend no room
 -- promise an equation: `one` of tables is their law.)
 -- Assumes nothing.
-use mathlib.Core.Bool.{cond}
+use mathlib.Core.Bool.{Bool, cond}
 use mathlib.Core.Path.{_≡_, ap, _∙_}
 use mathlib.Core.List.{List}
 use Prim.Native.Nat.{ℕ}
@@ -9,7 +9,9 @@ use lib.Dec.{eqb}
 use lib.Ieee.{Float}
 use lib.IntN.{ℤ}
 use Rattle.tables.proofs.Single.{one}
+use Rattle.counts.specs.declared.Range.{Range}
 use Rattle.capi.specs.Answers.{Given, SamplesGiven, FieldGiven}
+use Rattle.capi.specs.Electrons.{LaidGiven, ByteGiven, RangeGiven, WordsGiven}
 
 pub one-given : (size : ℕ) (value r room : List ℕ) (m n : ℕ) (a b : List ℕ) → Given size value r room m a → Given size value r room n b → (m ≡ n) × (a ≡ b)
 one-given size value r room m n a b x y =
@@ -21,3 +23,17 @@ one-samples m room k n a b x y = (one (x .number) (y .number), one (x .written) 
 
 pub one-field : (z : ℤ) (r : ℕ) (old : Float) (k n : ℕ) (a b : Float) → FieldGiven z r old k a → FieldGiven z r old n b → (k ≡ n) × (a ≡ b)
 one-field z r old k n a b x y = (one (x .number) (y .number), one (x .written) (y .written))
+
+pub one-laid : (code : ℕ) (sc c : List ℕ) (k n : ℕ) (a b : List ℕ) → LaidGiven code sc c k a → LaidGiven code sc c n b → (k ≡ n) × (a ≡ b)
+one-laid code sc c k n a b x y = (one (x .number) (y .number), one (x .written) (y .written))
+
+pub one-byte : (c : List ℕ) (held p old k n a b : ℕ) → ByteGiven c held p old k a → ByteGiven c held p old n b → (k ≡ n) × (a ≡ b)
+one-byte c held p old k n a b x y = (one (x .number) (y .number), one (x .written) (y .written))
+
+pub one-words : (place held known : Bool) (r : Range) (low high k n l m h i : ℕ) → WordsGiven place held known r low high k l h → WordsGiven place held known r low high n m i
+    → (k ≡ n) × (l ≡ m) × (h ≡ i)
+one-words place held known r low high k n l m h i x y = (one (x .number) (y .number), one (x .low-written) (y .low-written), one (x .high-written) (y .high-written))
+
+pub one-range : (t : Bool) (other : ℕ) (r : Range) (low high k n l m h i : ℕ) → RangeGiven t other r low high k l h → RangeGiven t other r low high n m i
+    → (k ≡ n) × (l ≡ m) × (h ≡ i)
+one-range t other r low high k n l m h i x y = (one (x .number) (y .number), one (x .low-written) (y .low-written), one (x .high-written) (y .high-written))

@@ -1,11 +1,9 @@
 // The magnetometer, for C.
 ghost use mathlib.Core.Path.{_≡_};
 ghost use Rattle.capi.specs.Answers.{rangeNumber, SamplesGiven, FieldGiven};
+use crate::NOWHERE;
 use mag::Field;
 use mag::Unpacked;
-
-// LPMAG_NO_SUCH_PLACE.
-const NOWHERE: u8 = 8;
 
 #[no_mangle]
 pub extern "C" fn lpmag_range(mag: &[u8]) -> u8

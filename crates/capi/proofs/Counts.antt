@@ -1,0 +1,130 @@
+-- The numbers of the answers about electrons.
+-- Assumes nothing.
+use mathlib.Core.Path.{_≡_, refl, sym, ap, _∙_}
+use mathlib.Core.Bool.{Bool, true, false, cond, _&&_}
+use mathlib.Core.List.{List}
+use Prim.Native.Nat.{ℕ}
+use native.Mathlib.Omega.{arith}
+use lib.ListN.{getD}
+use borrow.Author.Tests.{ne-eqb}
+use Rattle.tables.proofs.Conds.{cond-of}
+use Rattle.counts.specs.Codes.{times}
+use Rattle.counts.specs.Sums.{added, small, SumIs}
+use Rattle.counts.specs.declared.Range.{Range}
+use Rattle.counts.specs.declared.sums.Sum.{Sum}
+use Rattle.counts.specs.declared.sums.Sum.the-variants as sum
+use Rattle.angles.specs.Angles.{angleAt, hasBin, AngleIs}
+use Rattle.angles.specs.declared.Angle.{Angle}
+use Rattle.angles.specs.declared.Angle.the-variants as angle
+use Rattle.cells.specs.Laying.{layable, FrameLaid}
+use Rattle.cells.specs.Asking.{holdsCell, isCell, rawSaid, CellIs, cellOf}
+use Rattle.cells.specs.declared.laying.Placed.{Placed}
+use Rattle.cells.specs.declared.laying.Placed.the-variants as placed
+use Rattle.cells.specs.declared.raw.Raw.{Raw}
+use Rattle.cells.specs.declared.raw.Raw.the-variants as raw
+use Rattle.electrons.specs.Questions.{answer, countSaid, CountIs}
+use Rattle.electrons.specs.declared.questions.Count.{Count}
+use Rattle.capi.specs.Answers.{nowhere}
+use Rattle.capi.specs.Electrons.{wordsNumber, LaidGiven, ByteGiven, RangeGiven, WordsGiven, lowOf, highOf, CountGiven, isDivisor, angleNumber}
+
+-- laying
+abbrev placedCode : Placed → ℕ
+placedCode placed.Laid = 0
+placedCode placed.NoSuchPlace = nowhere
+
+pub laid-told : (code : ℕ) (sc c : List ℕ) (r s : Placed) (c′ : List ℕ) → FrameLaid code sc c r c′ → r ≡ s → LaidGiven code sc c (placedCode s) c′
+laid-told code sc c r s c′ is e = record {
+  number = ap placedCode (sym e ∙ is .is) ∙ cond-of placedCode (layable code sc c) placed.Laid placed.NoSuchPlace;
+  written = is .room;
+}
+
+-- the raw cell
+abbrev pub byteOf : Raw → ℕ → ℕ
+byteOf (raw.Byte b) old = b
+byteOf raw.Absent old = old
+byteOf raw.NoSuchPlace old = old
+
+pub byte-told : (c : List ℕ) (held p old : ℕ) (r s : Raw) → CellIs c held p r → r ≡ s → ByteGiven c held p old (wordsNumber (rawSaid s)) (byteOf s old)
+unfolding cellOf
+byte-told c held p old r s is e = record {
+  number = ap (λ (x : Raw). wordsNumber (rawSaid x)) (sym e) ∙ ap wordsNumber (is .words);
+  written = ap (λ (x : Raw). byteOf x old) (sym e ∙ is .is) ∙ go (isCell c held p) (holdsCell held p);
+}
+  where
+    go : (x y : Bool) → byteOf (cond x (cond y (raw.Byte (getD c p 0)) raw.Absent) raw.NoSuchPlace) old ≡ cond (x && y) (getD c p 0) old
+    go true true = refl
+    go true false = refl
+    go false y = refl
+
+-- the questions
+low-is : (place held known : Bool) (r : Range) (old : ℕ) → lowOf (answer place held known r) old ≡ cond (place && (held && known)) (r .low) old
+low-is true true true r old = refl
+low-is true true false r old = refl
+low-is true false known r old = refl
+low-is false held known r old = refl
+
+high-is : (place held known : Bool) (r : Range) (old : ℕ) → highOf (answer place held known r) old ≡ cond (place && (held && known)) (r .high) old
+high-is true true true r old = refl
+high-is true true false r old = refl
+high-is true false known r old = refl
+high-is false held known r old = refl
+
+pub count-told : (place held known : Bool) (r : Range) (x : Count) (low high n low′ high′ : ℕ) → CountIs place held known r x → CountGiven x low high n low′ high′
+    → WordsGiven place held known r low high n low′ high′
+count-told place held known r x low high n low′ high′ is g = record {
+  number = g .number ∙ ap wordsNumber (is .words);
+  low-written = g .low-written ∙ ap (λ (y : Count). lowOf y low) (is .is) ∙ low-is place held known r low;
+  high-written = g .high-written ∙ ap (λ (y : Count). highOf y high) (is .is) ∙ high-is place held known r high;
+}
+
+pub handed : (x y : Count) (low high : ℕ) → x ≡ y → CountGiven x low high (wordsNumber (countSaid y)) (lowOf y low) (highOf y high)
+handed x y low high e = record {
+  number = ap (λ (z : Count). wordsNumber (countSaid z)) (sym e);
+  low-written = ap (λ (z : Count). lowOf z low) (sym e);
+  high-written = ap (λ (z : Count). highOf z high) (sym e);
+}
+
+-- ranges and sums
+pub given-range : (t : Bool) (other : ℕ) (r s : Range) (low high n low′ high′ : ℕ) → t ≡ true → r ≡ s → RangeGiven true 0 r low high n low′ high′ → RangeGiven t other s low high n low′ high′
+given-range t other r s low high n low′ high′ e f g = rw (e, sym f) (record { number = g .number; low-written = g .low-written; high-written = g .high-written })
+
+pub other-range : (t : Bool) (other : ℕ) (r : Range) (low high : ℕ) → t ≡ false → RangeGiven t other r low high other low high
+other-range t other r low high e = record { number = rw e; low-written = rw e; high-written = rw e }
+
+-- what a sum says
+module _ (a b : Range) (s : Sum) (is : SumIs a b s) where
+  pub sum-small : (r : Range) → s ≡ sum.Within r → small (added a b) ≡ true
+  sum-small r e = go (small (added a b)) refl
+    where
+      go : (t : Bool) → small (added a b) ≡ t → t ≡ true
+      go true x = refl
+      go false x = let y : sum.Within r ≡ sum.TooLarge = sym e ∙ is .is ∙ rw x in let n : _≡_ {A = ℕ} 0 1 = cc in absurd (omega arith)
+
+  pub sum-is : (r : Range) → s ≡ sum.Within r → r ≡ added a b
+  sum-is r e = let y : sum.Within r ≡ sum.Within (added a b) = sym e ∙ is .is ∙ rw (sum-small r e) in cc
+
+  pub sum-large : s ≡ sum.TooLarge → small (added a b) ≡ false
+  sum-large e = go (small (added a b)) refl
+    where
+      go : (t : Bool) → small (added a b) ≡ t → t ≡ false
+      go true x = let y : sum.TooLarge ≡ sum.Within (added a b) = sym e ∙ is .is ∙ rw x in let n : _≡_ {A = ℕ} 0 1 = cc in absurd (omega arith)
+      go false x = refl
+
+-- the divisors
+module _ (d k : ℕ) (e : d ≡ k) where
+  pub divisor-is : isDivisor k ≡ true → isDivisor d ≡ true
+  divisor-is t = ap isDivisor e ∙ t
+
+  pub divided-is : (code : ℕ) (r : Range) → r ≡ times k code → r ≡ times d code
+  divided-is code r f = f ∙ ap (λ (n : ℕ). times n code) (sym e)
+
+pub no-divisor : (d : ℕ) → (d ≡ 1 → ⊥) → (d ≡ 8 → ⊥) → (d ≡ 16 → ⊥) → isDivisor d ≡ false
+no-divisor d x y z = rw (ne-eqb d 1 x, ne-eqb d 8 y, ne-eqb d 16 z)
+
+-- angles
+abbrev angleCode : Angle → ℕ
+angleCode (angle.At b) = b
+angleCode angle.NoSuchBin = 88
+
+pub angle-told : (a p : ℕ) (r s : Angle) → AngleIs a p r → r ≡ s → angleCode s ≡ angleNumber a p
+angle-told a p r s is e = ap angleCode (sym e ∙ is .is) ∙ cond-of angleCode (hasBin a p) (angle.At (angleAt a p)) angle.NoSuchBin
