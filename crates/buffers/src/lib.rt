@@ -1,7 +1,37 @@
 // Buffers: one copied into another of its size, one laid into another from a place on.
 ghost use mathlib.Core.Path.{_≡_};
+ghost use Prim.Native.Nat.{_+_, _≤_};
+ghost use lib.ListN.{length, take, drop};
 ghost use Rattle.buffers.specs.Copying.{copied};
-ghost use Rattle.buffers.specs.Laying.{laid};
+ghost use Rattle.buffers.specs.Laying.{patch, laid};
+
+// A copy goes in blocks. A block is read whole before it is put: so it is one load and one store, though two slices could overlap
+// for all that the compiler knows.
+const BLOCK: usize = 16;
+
+fn read_block(from: &[u8], at: usize) -> [u8; BLOCK]
+    requires { ⌜ at + 16 ≤ length (now from) ⌝ }
+    ensures { λ b. ⌜ b ≡ take 16 (drop at (now (from .entry))) ⌝ }
+{
+    let mut block = [0; BLOCK];
+    let mut k = 0;
+    while k < BLOCK {
+        block[k] = from[at + k];
+        k += 1;
+    }
+    block
+}
+
+fn put_block(block: [u8; BLOCK], to: &mut [u8], at: usize)
+    requires { ⌜ at + 16 ≤ length (now to) ⌝ }
+    ensures { λ _. ⌜ now (to .exit) ≡ patch (now (to .entry)) at block ⌝ }
+{
+    let mut k = 0;
+    while k < BLOCK {
+        to[at + k] = block[k];
+        k += 1;
+    }
+}
 
 // `to` becomes `from` where both are of one size; else it stays as found.
 pub fn copy(from: &[u8], to: &mut [u8])
@@ -11,6 +41,10 @@ pub fn copy(from: &[u8], to: &mut [u8])
         return;
     }
     let mut i = 0;
+    while BLOCK <= from.len() - i {
+        put_block(read_block(from, i), to, i);
+        i += BLOCK;
+    }
     while i < from.len() {
         to[i] = from[i];
         i += 1;

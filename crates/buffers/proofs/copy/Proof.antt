@@ -1,11 +1,12 @@
--- `buffers::copy` meets its contract. The loop has copied the first i; the rest is as found.
+-- `buffers::copy` meets its contract. Both loops have copied the first i; the rest is as found.
 -- Assumes nothing.
 use Prim.Native.Nat.{ℕ, _≤_, _-_}
 use mathlib.Core.Path.{_≡_, ap, _∙_}
 use mathlib.Core.List.{List, _++_}
 use lib.ListN.{length, getD, set, take, drop}
 use denote.Ref.{now}
-use Rattle.buffers.proofs.Copies.{copy-more, copy-all, copy-none}
+use Rattle.buffers.proofs.Copies.{copy-more, copy-all, copy-same, copy-none, copy-start}
+use Rattle.buffers.proofs.Blocks.{block-more}
 use native.Mathlib.Omega.{arith}
 use borrow.Author.Needs.{needs}
 use Rattle.buffers.proofs.copy.Statement.{statement}
@@ -17,43 +18,78 @@ Inv-loop from to₀ i₀ to i = (i ≤ length from) × (to ≡ take i from ++ dr
 abbrev μ-loop : tie.MeasureT-loop
 μ-loop from to₀ i₀ to i = length from - i
 
-returns : tie.Need-returns Inv-loop μ-loop
-returns c = let a = c .before .args in copy-none (now (a .from)) (now (a .to)) (c .if1 .taken)
+abbrev Inv-loop2 : tie.InvT-loop2
+Inv-loop2 from to₀ i₀ to i = (i ≤ length from) × (to ≡ take i from ++ drop i to₀) × (length to ≡ length to₀)
 
-loop-holds : tie.Need-loop-holds Inv-loop μ-loop
+abbrev μ-loop2 : tie.MeasureT-loop2
+μ-loop2 from to₀ i₀ to i = length from - i
+
+returns : tie.Need-returns Inv-loop μ-loop Inv-loop2 μ-loop2
+returns c = let a = c .before .before .before .args in copy-none (now (a .from)) (now (a .to)) (c .if1 .taken)
+
+loop-holds : tie.Need-loop-holds Inv-loop μ-loop Inv-loop2 μ-loop2
 loop-holds c = search needs
 
-shared-slice-read-to : tie.Need-shared-slice-read-to Inv-loop μ-loop
-shared-slice-read-to c = search needs
+sub-loop : tie.Need-sub-loop Inv-loop μ-loop Inv-loop2 μ-loop2
+sub-loop c = search needs
 
-slice-write-to : tie.Need-slice-write-to Inv-loop μ-loop
-slice-write-to c = search needs
+read-block-requires : tie.Need-read-block-requires Inv-loop μ-loop Inv-loop2 μ-loop2
+read-block-requires c κs = search needs
 
-add-i : tie.Need-add-i Inv-loop μ-loop
+put-block-requires : tie.Need-put-block-requires Inv-loop μ-loop Inv-loop2 μ-loop2
+put-block-requires c κs = search needs
+
+add-i : tie.Need-add-i Inv-loop μ-loop Inv-loop2 μ-loop2
 add-i c = search needs
 
-loop-less : tie.Need-loop-less Inv-loop μ-loop
+loop-less : tie.Need-loop-less Inv-loop μ-loop Inv-loop2 μ-loop2
 loop-less c = search needs
 
-loop-again : tie.Need-loop-again Inv-loop μ-loop
+loop-again : tie.Need-loop-again Inv-loop μ-loop Inv-loop2 μ-loop2
 loop-again c =
-    let l = c .before .before in
-    let a = l .before .before .args in
-    let s = now (a .from) in
-    let i = l .loop .i in (
+    let k = c .before .before .before .before .before .before in
+    let l = k .loop in
+    let a = k .before .before .before .before .args in (
       search needs,
-      ap (λ (d : List ℕ). set d i (getD s i 0)) (l .loop .inv .1) ∙ copy-more i s (now (a .to)) 0 (omega arith) (omega arith),
+      c .before .before .put-block .ensures ∙ block-more (now (a .from)) (now (a .to)) (c .before .before .before .before .read-block .result) (l .to) (l .i) 16 (omega arith) (c .before .before .before .before .read-block .ensures) (l .inv .1),
       search needs,
     )
 
-same-length : tie.Need-same-length Inv-loop μ-loop
+loop2-holds : tie.Need-loop2-holds Inv-loop μ-loop Inv-loop2 μ-loop2
+loop2-holds c = let l = c .before .loop in let a = c .before .before .before .before .before .args in (search needs, copy-start (l .i) (now (a .from)) (now (a .to)) (l .to) (l .inv .0) (l .inv .1), search needs)
+
+shared-slice-read-to : tie.Need-shared-slice-read-to Inv-loop μ-loop Inv-loop2 μ-loop2
+shared-slice-read-to c = search needs
+
+slice-write-to : tie.Need-slice-write-to Inv-loop μ-loop Inv-loop2 μ-loop2
+slice-write-to c = search needs
+
+add-i-2 : tie.Need-add-i-2 Inv-loop μ-loop Inv-loop2 μ-loop2
+add-i-2 c = search needs
+
+loop2-less : tie.Need-loop2-less Inv-loop μ-loop Inv-loop2 μ-loop2
+loop2-less c = search needs
+
+loop2-again : tie.Need-loop2-again Inv-loop μ-loop Inv-loop2 μ-loop2
+loop2-again c =
+    let l = c .before .before .loop2 in
+    let k = c .before .before .before .before in
+    let a = k .before .before .before .before .args in
+    let s = now (a .from) in (
+      search needs,
+      ap (λ (d : List ℕ). set d (l .i) (getD s (l .i) 0)) (l .inv .1) ∙ copy-more (l .i) s (k .loop .to) 0 (omega arith) (omega arith),
+      search needs,
+    )
+
+same-length : tie.Need-same-length Inv-loop μ-loop Inv-loop2 μ-loop2
 same-length c = search needs
 
-returns-2 : tie.Need-returns-2 Inv-loop μ-loop
+returns-2 : tie.Need-returns-2 Inv-loop μ-loop Inv-loop2 μ-loop2
 returns-2 c =
-    let l = c .before in
-    let a = l .before .before .args in
-    l .loop .inv .1 ∙ copy-all (l .loop .i) (now (a .from)) (now (a .to)) (omega arith) (omega arith)
+    let l = c .before .loop2 in
+    let k = c .before .before .before in
+    let a = k .before .before .before .before .args in
+    l .inv .1 ∙ copy-all (l .i) (now (a .from)) (k .loop .to) (omega arith) (omega arith) ∙ copy-same (now (a .from)) (now (a .to)) (omega arith)
 
 pub copy-spec : {M : Type 1} → statement M
 copy-spec =
@@ -61,12 +97,21 @@ copy-spec =
     (tie.spec
     Inv-loop
     μ-loop
+    Inv-loop2
+    μ-loop2
     returns
     loop-holds
-    shared-slice-read-to
-    slice-write-to
+    sub-loop
+    read-block-requires
+    put-block-requires
     add-i
     loop-less
     loop-again
+    loop2-holds
+    shared-slice-read-to
+    slice-write-to
+    add-i-2
+    loop2-less
+    loop2-again
     same-length
     returns-2)
