@@ -2,9 +2,9 @@
  * `rt staticlib capi` writes (target/staticlib/libcapi.a, x86-64 Linux).
  *
  * A slice is a pointer and then a number of elements. A pointer may be null
- * only with 0 elements. No function keeps a pointer. Lent rooms must not
- * overlap any other argument. Every function answers for every input. A lent
- * buffer is called a room here.
+ * only with 0 elements. No function keeps a pointer. A lent buffer is called a
+ * room here. Rooms and numbers lent must not overlap each other or any other
+ * argument. Every function answers for every input.
  *
  * Papers: "01" is the rules for what is built, "000" the instrument's telemetry
  * format, "002" the archive label.
@@ -120,34 +120,42 @@ uint8_t lpmag_field(int16_t sample, uint8_t range, float *field);
  *   2988-2996  the top two bits of each type's frame code, in type order, four
  *              types a byte, the first highest
  * `held` has the bit of weight 2^u set when the frame of type u, 0 to 35, is
- * held. The questions below answer LPMAG_NO_SUCH_PLACE when a bit above 35 is
- * set, when the cells are of another size, and for any number outside the
- * counts above; after that LPMAG_ABSENT when the frame that carries the cell
- * isn't held. Numbers lent for an answer change only when the answer is 0; their
- * pointers are never null. */
+ * held. lpmag_cell, lpmag_electron_sample, lpmag_three_d, lpmag_total and
+ * lpmag_rate answer LPMAG_NO_SUCH_PLACE when a bit above 35 is set, when the
+ * cells are of another size, and for any number out of its bounds; after that
+ * LPMAG_ABSENT when the frame that carries the cell isn't held. Numbers lent for
+ * an answer change only when the answer is 0; their pointers are never null. */
 
 /* Lays one real-time frame into the cells: each of its LPMAG_SCIENCE bytes to
  * the cell that 000 section 2.3 gives it, the top two bits of its frame code (the
  * type byte) to its type's pair; all else stays as found. Answers 0; or
  * LPMAG_NO_SUCH_PLACE when the type, the code's low six bits, is above 35 or
  * either size is another, and then the cells stay as found. */
-uint8_t lpmag_lay_electrons(uint8_t code, const uint8_t *science, size_t length, uint8_t *cells, size_t cells_length);
+uint8_t lpmag_lay_electrons(uint8_t code, const uint8_t *science, size_t length, uint8_t *cells,
+                            size_t cells_length);
 
 /* The raw byte of cell 0 to 2987. */
 uint8_t lpmag_cell(const uint8_t *cells, size_t length, uint64_t held, size_t cell, uint8_t *byte);
 
 /* The counts that a pitch-angle sample stands for, from *low to *high: energy
- * bin 0 to 14, the sample's number in its bin, angle 0 to 15. Bins 0-5, 7 and 8
+ * bin 0 to 14, the sample's number in its bin, from 0 in time order, angle 0 to
+ * 15. Bins 0-5, 7 and 8
  * may be pre-scaled: they answer LPMAG_SCALE_UNKNOWN when the sample is held but
  * type 0, which carries the pre-scale state, isn't. */
-uint8_t lpmag_electron_sample(const uint8_t *cells, size_t length, uint64_t held, size_t bin, size_t number, size_t angle, uint64_t *low, uint64_t *high);
+uint8_t lpmag_electron_sample(const uint8_t *cells, size_t length, uint64_t held, size_t bin,
+                              size_t number, size_t angle, uint64_t *low, uint64_t *high);
 
 /* The counts of 3D energy step 0 to 14, angle 0 to 87. */
-uint8_t lpmag_three_d(const uint8_t *cells, size_t length, uint64_t held, size_t step, size_t angle, uint64_t *low, uint64_t *high);
+uint8_t lpmag_three_d(const uint8_t *cells, size_t length, uint64_t held, size_t step, size_t angle,
+                      uint64_t *low, uint64_t *high);
 
-/* Total counts and rate counter of the first half-spin (header bytes 2 and 3). */
-uint8_t lpmag_total(const uint8_t *cells, size_t length, uint64_t held, uint64_t *low, uint64_t *high);
-uint8_t lpmag_rate(const uint8_t *cells, size_t length, uint64_t held, uint64_t *low, uint64_t *high);
+/* Total counts and rate counter of the first half-spin (header bytes 2 and 3), in
+ * counts: the division by 16 before compression is undone. Total rides in type 0,
+ * Rate in type 1. */
+uint8_t lpmag_total(const uint8_t *cells, size_t length, uint64_t held, uint64_t *low,
+                    uint64_t *high);
+uint8_t lpmag_rate(const uint8_t *cells, size_t length, uint64_t held, uint64_t *low,
+                   uint64_t *high);
 
 /* The counts of a code that were divided by 1, 8 (pre-scaled) or 16 (Total and
  * Rate) before they were compressed. Any other divisor: LPMAG_NO_SUCH_PLACE. */
@@ -155,7 +163,8 @@ uint8_t lpmag_count_range(uint8_t code, uint8_t divided_by, uint64_t *low, uint6
 
 /* The sum of two ranges: the lows added, the highs added. LPMAG_TOO_LARGE when
  * either sum is past 64 bits. */
-uint8_t lpmag_count_sum(uint64_t low_a, uint64_t high_a, uint64_t low_b, uint64_t high_b, uint64_t *low, uint64_t *high);
+uint8_t lpmag_count_sum(uint64_t low_a, uint64_t high_a, uint64_t low_b, uint64_t high_b,
+                        uint64_t *low, uint64_t *high);
 
 /* The angle 0 to 87 of an anode 0 to 15 at a spin phase 0 to 7 (000, section
  * 2.3.2); else LPMAG_NO_SUCH_BIN. */

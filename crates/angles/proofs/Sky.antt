@@ -49,6 +49,13 @@ unfolding anode
 width-right a h =
     leb→le _ _ (both-left (leb 1 (rowOf a .1)) _ (both-left (both (leb 1 (rowOf a .1)) (eqb (angleAt (lineOf a .lastAnode) 7) (lineOf a .lastAngle))) _ (at-anode a h)))
 
+-- each line ends with the angle printed
+pub line-ends : (a : ℕ) → a < 16 → angleAt (lineOf a .lastAnode) 7 ≡ lineOf a .lastAngle
+unfolding anode
+line-ends a h =
+    eqb→eq _ _
+    (both-right (leb 1 (rowOf a .1)) _ (both-left (both (leb 1 (rowOf a .1)) (eqb (angleAt (lineOf a .lastAnode) 7) (lineOf a .lastAngle))) _ (at-anode a h)))
+
 at-phase : (a p : ℕ) → a < 16 → p < 8 → T (phase a p)
 unfolding anode
 at-phase a p h k =

@@ -29,6 +29,7 @@ const ANODES: [Anode; 16] = [
     Anode(86, 4),
 ];
 
+// The angle of an anode 0 to 15 at a spin phase 0 to 7.
 pub fn angle_of(anode: usize, phase: usize) -> Angle
     ensures { λ r. ⌜ AngleIs anode phase r ⌝ }
 {

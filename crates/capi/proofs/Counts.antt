@@ -9,23 +9,26 @@ use lib.ListN.{getD}
 use borrow.Author.Tests.{ne-eqb}
 use Rattle.tables.proofs.Conds.{cond-of}
 use Rattle.counts.specs.Codes.{times}
-use Rattle.counts.specs.Sums.{added, small, SumIs}
+use Rattle.counts.specs.Sums.{added, fits64, SumIs}
 use Rattle.counts.specs.declared.Range.{Range}
 use Rattle.counts.specs.declared.sums.Sum.{Sum}
 use Rattle.counts.specs.declared.sums.Sum.the-variants as sum
 use Rattle.angles.specs.Angles.{angleAt, hasBin, AngleIs}
 use Rattle.angles.specs.declared.Angle.{Angle}
 use Rattle.angles.specs.declared.Angle.the-variants as angle
+use Rattle.cells.specs.Words.{said}
 use Rattle.cells.specs.Laying.{layable, FrameLaid}
-use Rattle.cells.specs.Asking.{holdsCell, isCell, rawSaid, CellIs, cellOf}
+use Rattle.cells.specs.Raw.{holdsCell, isCell, rawSaid, CellIs, cellOf}
 use Rattle.cells.specs.declared.laying.Placed.{Placed}
 use Rattle.cells.specs.declared.laying.Placed.the-variants as placed
 use Rattle.cells.specs.declared.raw.Raw.{Raw}
 use Rattle.cells.specs.declared.raw.Raw.the-variants as raw
-use Rattle.electrons.specs.Questions.{answer, countSaid, CountIs}
+use Rattle.electrons.specs.Questions.{Asked, answer, words, gives, countSaid, CountIs}
 use Rattle.electrons.specs.declared.questions.Count.{Count}
+use Rattle.electrons.specs.declared.questions.Count.the-variants.{Within, ScaleUnknown, Absent, NoSuchPlace}
+use Rattle.capi.specs.Handing.{lowOf, highOf, CountGiven}
 use Rattle.capi.specs.Answers.{nowhere}
-use Rattle.capi.specs.Electrons.{wordsNumber, LaidGiven, ByteGiven, RangeGiven, WordsGiven, lowOf, highOf, CountGiven, isDivisor, angleNumber}
+use Rattle.capi.specs.Electrons.{wordsNumber, LaidGiven, ByteGiven, RangeGiven, AskedGiven, isDivisor, angleNumber}
 
 -- laying
 abbrev placedCode : Placed → ℕ
@@ -57,24 +60,40 @@ byte-told c held p old r s is e = record {
     go false y = refl
 
 -- the questions
-low-is : (place held known : Bool) (r : Range) (old : ℕ) → lowOf (answer place held known r) old ≡ cond (place && (held && known)) (r .low) old
-low-is true true true r old = refl
-low-is true true false r old = refl
-low-is true false known r old = refl
-low-is false held known r old = refl
+low-is : (q : Asked) (old : ℕ) → lowOf (answer q) old ≡ cond (gives q) (q .range .low) old
+low-is q old = go (q .place) (q .held) (q .known)
+  where
+    go : (x y z : Bool) → lowOf (cond x (cond y (cond z (Within (q .range)) ScaleUnknown) Absent) NoSuchPlace) old ≡ cond (x && (y && z)) (q .range .low) old
+    go true true true = refl
+    go true true false = refl
+    go true false z = refl
+    go false y z = refl
 
-high-is : (place held known : Bool) (r : Range) (old : ℕ) → highOf (answer place held known r) old ≡ cond (place && (held && known)) (r .high) old
-high-is true true true r old = refl
-high-is true true false r old = refl
-high-is true false known r old = refl
-high-is false held known r old = refl
+high-is : (q : Asked) (old : ℕ) → highOf (answer q) old ≡ cond (gives q) (q .range .high) old
+high-is q old = go (q .place) (q .held) (q .known)
+  where
+    go : (x y z : Bool) → highOf (cond x (cond y (cond z (Within (q .range)) ScaleUnknown) Absent) NoSuchPlace) old ≡ cond (x && (y && z)) (q .range .high) old
+    go true true true = refl
+    go true true false = refl
+    go true false z = refl
+    go false y z = refl
 
-pub count-told : (place held known : Bool) (r : Range) (x : Count) (low high n low′ high′ : ℕ) → CountIs place held known r x → CountGiven x low high n low′ high′
-    → WordsGiven place held known r low high n low′ high′
-count-told place held known r x low high n low′ high′ is g = record {
-  number = g .number ∙ ap wordsNumber (is .words);
-  low-written = g .low-written ∙ ap (λ (y : Count). lowOf y low) (is .is) ∙ low-is place held known r low;
-  high-written = g .high-written ∙ ap (λ (y : Count). highOf y high) (is .is) ∙ high-is place held known r high;
+-- a range is answered with 0
+number-is : (q : Asked) → wordsNumber (words q) ≡ cond (gives q) 0 (wordsNumber (words q))
+unfolding wordsNumber
+number-is q = go (q .place) (q .held) (q .known)
+  where
+    go : (x y z : Bool) → wordsNumber (said x y z) ≡ cond (x && (y && z)) 0 (wordsNumber (said x y z))
+    go true true true = refl
+    go true true false = refl
+    go true false z = refl
+    go false y z = refl
+
+pub count-told : (q : Asked) (x : Count) (low high n low′ high′ : ℕ) → CountIs q x → CountGiven x low high n low′ high′ → AskedGiven q low high n low′ high′
+count-told q x low high n low′ high′ is g = record {
+  number = g .number ∙ ap wordsNumber (is .says) ∙ number-is q;
+  low-written = g .low-written ∙ ap (λ (y : Count). lowOf y low) (is .is) ∙ low-is q low;
+  high-written = g .high-written ∙ ap (λ (y : Count). highOf y high) (is .is) ∙ high-is q high;
 }
 
 pub handed : (x y : Count) (low high : ℕ) → x ≡ y → CountGiven x low high (wordsNumber (countSaid y)) (lowOf y low) (highOf y high)
@@ -83,6 +102,10 @@ handed x y low high e = record {
   low-written = ap (λ (z : Count). lowOf z low) (sym e);
   high-written = ap (λ (z : Count). highOf z high) (sym e);
 }
+
+pub handed-range : (x : Count) (r : Range) (low high n low′ high′ : ℕ) → x ≡ Within r → RangeGiven true 0 r low high n low′ high′ → CountGiven x low high n low′ high′
+unfolding wordsNumber countSaid
+handed-range x r low high n low′ high′ e g = rw e (record { number = g .number; low-written = g .low-written; high-written = g .high-written })
 
 -- ranges and sums
 pub given-range : (t : Bool) (other : ℕ) (r s : Range) (low high n low′ high′ : ℕ) → t ≡ true → r ≡ s → RangeGiven true 0 r low high n low′ high′ → RangeGiven t other s low high n low′ high′
@@ -93,20 +116,20 @@ other-range t other r low high e = record { number = rw e; low-written = rw e; h
 
 -- what a sum says
 module _ (a b : Range) (s : Sum) (is : SumIs a b s) where
-  pub sum-small : (r : Range) → s ≡ sum.Within r → small (added a b) ≡ true
-  sum-small r e = go (small (added a b)) refl
+  pub sum-small : (r : Range) → s ≡ sum.Within r → fits64 (added a b) ≡ true
+  sum-small r e = go (fits64 (added a b)) refl
     where
-      go : (t : Bool) → small (added a b) ≡ t → t ≡ true
+      go : (t : Bool) → fits64 (added a b) ≡ t → t ≡ true
       go true x = refl
       go false x = let y : sum.Within r ≡ sum.TooLarge = sym e ∙ is .is ∙ rw x in let n : _≡_ {A = ℕ} 0 1 = cc in absurd (omega arith)
 
   pub sum-is : (r : Range) → s ≡ sum.Within r → r ≡ added a b
   sum-is r e = let y : sum.Within r ≡ sum.Within (added a b) = sym e ∙ is .is ∙ rw (sum-small r e) in cc
 
-  pub sum-large : s ≡ sum.TooLarge → small (added a b) ≡ false
-  sum-large e = go (small (added a b)) refl
+  pub sum-large : s ≡ sum.TooLarge → fits64 (added a b) ≡ false
+  sum-large e = go (fits64 (added a b)) refl
     where
-      go : (t : Bool) → small (added a b) ≡ t → t ≡ false
+      go : (t : Bool) → fits64 (added a b) ≡ t → t ≡ false
       go true x = let y : sum.TooLarge ≡ sum.Within (added a b) = sym e ∙ is .is ∙ rw x in let n : _≡_ {A = ℕ} 0 1 = cc in absurd (omega arith)
       go false x = refl
 

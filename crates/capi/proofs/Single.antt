@@ -11,7 +11,7 @@ use lib.IntN.{ℤ}
 use Rattle.tables.proofs.Single.{one}
 use Rattle.counts.specs.declared.Range.{Range}
 use Rattle.capi.specs.Answers.{Given, SamplesGiven, FieldGiven}
-use Rattle.capi.specs.Electrons.{LaidGiven, ByteGiven, RangeGiven, WordsGiven}
+use Rattle.capi.specs.Electrons.{LaidGiven, ByteGiven, RangeGiven}
 
 pub one-given : (size : ℕ) (value r room : List ℕ) (m n : ℕ) (a b : List ℕ) → Given size value r room m a → Given size value r room n b → (m ≡ n) × (a ≡ b)
 one-given size value r room m n a b x y =
@@ -30,10 +30,7 @@ one-laid code sc c k n a b x y = (one (x .number) (y .number), one (x .written) 
 pub one-byte : (c : List ℕ) (held p old k n a b : ℕ) → ByteGiven c held p old k a → ByteGiven c held p old n b → (k ≡ n) × (a ≡ b)
 one-byte c held p old k n a b x y = (one (x .number) (y .number), one (x .written) (y .written))
 
-pub one-words : (place held known : Bool) (r : Range) (low high k n l m h i : ℕ) → WordsGiven place held known r low high k l h → WordsGiven place held known r low high n m i
-    → (k ≡ n) × (l ≡ m) × (h ≡ i)
-one-words place held known r low high k n l m h i x y = (one (x .number) (y .number), one (x .low-written) (y .low-written), one (x .high-written) (y .high-written))
-
+-- the questions, count ranges and sums
 pub one-range : (t : Bool) (other : ℕ) (r : Range) (low high k n l m h i : ℕ) → RangeGiven t other r low high k l h → RangeGiven t other r low high n m i
     → (k ≡ n) × (l ≡ m) × (h ≡ i)
 one-range t other r low high k n l m h i x y = (one (x .number) (y .number), one (x .low-written) (y .low-written), one (x .high-written) (y .high-written))

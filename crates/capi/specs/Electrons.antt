@@ -1,22 +1,18 @@
 -- What the exported functions of the electrons answer.
 -- Assumes nothing.
-use Prim.Native.Nat.{ℕ, _+_}
+use Prim.Native.Nat.{ℕ}
 use mathlib.Core.Bool.{Bool, true, cond, _&&_, _||_}
 use mathlib.Core.List.{List}
 use mathlib.Core.Path.{_≡_}
 use lib.Dec.{eqb}
 use lib.ListN.{getD}
-use Rattle.counts.specs.Codes.{rangeOf}
 use Rattle.counts.specs.Sums.{added}
 use Rattle.counts.specs.declared.Range.{Range}
-use Rattle.counts.specs.declared.codes.Divided.the-variants.{By1, By16}
 use Rattle.angles.specs.Angles.{angleAt, hasBin}
-use Rattle.carriage.specs.Carriage.{sampleCell, threeCell}
 use Rattle.cells.specs.Laying.{laidFrame, layable}
-use Rattle.cells.specs.Asking.{Words, noSuchPlace, absent, scaleUnknown, given, said, holdsCell, askable, isCell}
-use Rattle.electrons.specs.Questions.{countSaid, hasSample, dividedBy, scaleKnown, hasThree}
-use Rattle.electrons.specs.declared.questions.Count.{Count}
-use Rattle.electrons.specs.declared.questions.Count.the-variants.{Within, ScaleUnknown, Absent, NoSuchPlace}
+use Rattle.cells.specs.Words.{Words, noSuchPlace, absent, scaleUnknown, given, said}
+use Rattle.cells.specs.Raw.{holdsCell, isCell}
+use Rattle.electrons.specs.Questions.{Asked, words, gives}
 use Rattle.capi.specs.Answers.{nowhere}
 
 -- 01's words as include/lpmag.h numbers them: LPMAG_NO_SUCH_PLACE, LPMAG_ABSENT, LPMAG_SCALE_UNKNOWN, 0
@@ -42,42 +38,9 @@ pub record RangeGiven (holds : Bool) (other : ℕ) (r : Range) (low high n low�
   pub low-written : low′ ≡ cond holds (r .low) low
   pub high-written : high′ ≡ cond holds (r .high) high
 
--- an answer of the questions, by its words
-pub record WordsGiven (place held known : Bool) (r : Range) (low high n low′ high′ : ℕ) : Type 0 where
-  pub number : n ≡ wordsNumber (said place held known)
-  pub low-written : low′ ≡ cond (place && (held && known)) (r .low) low
-  pub high-written : high′ ≡ cond (place && (held && known)) (r .high) high
-
--- what is handed out of an answer
-abbrev pub lowOf : Count → ℕ → ℕ
-lowOf (Within r) low = r .low
-lowOf ScaleUnknown low = low
-lowOf Absent low = low
-lowOf NoSuchPlace low = low
-
-abbrev pub highOf : Count → ℕ → ℕ
-highOf (Within r) high = r .high
-highOf ScaleUnknown high = high
-highOf Absent high = high
-highOf NoSuchPlace high = high
-
-pub record CountGiven (x : Count) (low high n low′ high′ : ℕ) : Type 0 where
-  pub number : n ≡ wordsNumber (countSaid x)
-  pub low-written : low′ ≡ lowOf x low
-  pub high-written : high′ ≡ highOf x high
-
-abbrev pub SampleGiven : List ℕ → ℕ → ℕ → ℕ → ℕ → ℕ → ℕ → ℕ → ℕ → ℕ → Type 0
-SampleGiven c held b s a =
-    WordsGiven (askable c held && hasSample b s a) (holdsCell held (sampleCell b s a)) (scaleKnown held b)
-    (rangeOf (getD c (sampleCell b s a) 0) (dividedBy c b))
-
-abbrev pub ThreeGiven : List ℕ → ℕ → ℕ → ℕ → ℕ → ℕ → ℕ → ℕ → ℕ → Type 0
-ThreeGiven c held e b =
-    WordsGiven (askable c held && hasThree e b) (holdsCell held (threeCell e b)) true (rangeOf (getD c (threeCell e b) 0) By1)
-
--- Total is header byte 2, Rate header byte 3
-abbrev pub HeaderGiven : ℕ → List ℕ → ℕ → ℕ → ℕ → ℕ → ℕ → ℕ → Type 0
-HeaderGiven p c held = WordsGiven (askable c held) (holdsCell held p) true (rangeOf (getD c p 0) By16)
+-- an answer of the questions: the range, or the number of 01's words
+abbrev pub AskedGiven : Asked → ℕ → ℕ → ℕ → ℕ → ℕ → Type 0
+AskedGiven q = RangeGiven (gives q) (wordsNumber (words q)) (q .range)
 
 -- the divisors of include/lpmag.h
 abbrev pub isDivisor : ℕ → Bool

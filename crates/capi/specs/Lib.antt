@@ -1,3 +1,4 @@
 pub mod Bytes
 pub mod Answers
 pub mod Electrons
+pub mod Handing

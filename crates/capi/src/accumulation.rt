@@ -1,8 +1,11 @@
 // The electrons of an accumulation, for C.
-ghost use Rattle.capi.specs.Electrons.{LaidGiven, ByteGiven, CountGiven, SampleGiven, ThreeGiven, HeaderGiven};
+ghost use Rattle.electrons.specs.Questions.{totalCell, rateCell, sampleAsked, threeAsked, headerAsked};
+ghost use Rattle.capi.specs.Electrons.{LaidGiven, ByteGiven, AskedGiven};
+ghost use Rattle.capi.specs.Handing.{CountGiven};
 use crate::ABSENT;
 use crate::NOWHERE;
 use crate::SCALE_UNKNOWN;
+use crate::counting::give;
 use cells::Placed;
 use cells::Raw;
 use electrons::Count;
@@ -33,16 +36,12 @@ pub extern "C" fn lpmag_cell(cells: &[u8], held: u64, cell: usize, byte: &mut u8
     }
 }
 
-// The range of an answer goes to the two numbers lent for it.
+// The range of an answer, or the number of its words.
 fn hand_out(answer: Count, low: &mut u64, high: &mut u64) -> u8
     ensures { λ n. ⌜ CountGiven answer (now (low .entry)) (now (high .entry)) n (now (low .exit)) (now (high .exit)) ⌝ }
 {
     match answer {
-        Count::Within(r) => {
-            *low = r.low;
-            *high = r.high;
-            0
-        }
+        Count::Within(r) => give(r, low, high),
         Count::ScaleUnknown => SCALE_UNKNOWN,
         Count::Absent => ABSENT,
         Count::NoSuchPlace => NOWHERE,
@@ -59,7 +58,7 @@ pub extern "C" fn lpmag_electron_sample(
     low: &mut u64,
     high: &mut u64,
 ) -> u8
-    ensures { λ n. ⌜ SampleGiven (now (cells .entry)) held bin number angle (now (low .entry)) (now (high .entry)) n (now (low .exit)) (now (high .exit)) ⌝ }
+    ensures { λ n. ⌜ AskedGiven (sampleAsked (now (cells .entry)) held bin number angle) (now (low .entry)) (now (high .entry)) n (now (low .exit)) (now (high .exit)) ⌝ }
 {
     hand_out(
         electrons::sample(cells, held, bin, number, angle),
@@ -77,21 +76,21 @@ pub extern "C" fn lpmag_three_d(
     low: &mut u64,
     high: &mut u64,
 ) -> u8
-    ensures { λ n. ⌜ ThreeGiven (now (cells .entry)) held step angle (now (low .entry)) (now (high .entry)) n (now (low .exit)) (now (high .exit)) ⌝ }
+    ensures { λ n. ⌜ AskedGiven (threeAsked (now (cells .entry)) held step angle) (now (low .entry)) (now (high .entry)) n (now (low .exit)) (now (high .exit)) ⌝ }
 {
     hand_out(electrons::three_d(cells, held, step, angle), low, high)
 }
 
 #[no_mangle]
 pub extern "C" fn lpmag_total(cells: &[u8], held: u64, low: &mut u64, high: &mut u64) -> u8
-    ensures { λ n. ⌜ HeaderGiven 2 (now (cells .entry)) held (now (low .entry)) (now (high .entry)) n (now (low .exit)) (now (high .exit)) ⌝ }
+    ensures { λ n. ⌜ AskedGiven (headerAsked totalCell (now (cells .entry)) held) (now (low .entry)) (now (high .entry)) n (now (low .exit)) (now (high .exit)) ⌝ }
 {
     hand_out(electrons::total(cells, held), low, high)
 }
 
 #[no_mangle]
 pub extern "C" fn lpmag_rate(cells: &[u8], held: u64, low: &mut u64, high: &mut u64) -> u8
-    ensures { λ n. ⌜ HeaderGiven 3 (now (cells .entry)) held (now (low .entry)) (now (high .entry)) n (now (low .exit)) (now (high .exit)) ⌝ }
+    ensures { λ n. ⌜ AskedGiven (headerAsked rateCell (now (cells .entry)) held) (now (low .entry)) (now (high .entry)) n (now (low .exit)) (now (high .exit)) ⌝ }
 {
     hand_out(electrons::rate(cells, held), low, high)
 }

@@ -2,7 +2,7 @@
 ghost use mathlib.Core.Path.{_≡_};
 ghost use mathlib.Core.Bool.{true};
 ghost use Rattle.counts.specs.Codes.{times};
-ghost use Rattle.counts.specs.Sums.{small};
+ghost use Rattle.counts.specs.Sums.{fits64};
 ghost use Rattle.capi.specs.Answers.{nowhere};
 ghost use Rattle.capi.specs.Electrons.{RangeGiven, isDivisor, sumOf, tooLarge, angleNumber};
 use crate::NO_SUCH_BIN;
@@ -13,7 +13,8 @@ use counts::Divided;
 use counts::Range;
 use counts::Sum;
 
-fn hand_out(r: Range, low: &mut u64, high: &mut u64) -> u8
+// A range goes to the two numbers lent for it.
+pub fn give(r: Range, low: &mut u64, high: &mut u64) -> u8
     ensures { λ n. ⌜ RangeGiven true 0 r (now (low .entry)) (now (high .entry)) n (now (low .exit)) (now (high .exit)) ⌝ }
 {
     *low = r.low;
@@ -26,9 +27,9 @@ pub extern "C" fn lpmag_count_range(code: u8, divided_by: u8, low: &mut u64, hig
     ensures { λ n. ⌜ RangeGiven (isDivisor «divided_by») nowhere (times «divided_by» code) (now (low .entry)) (now (high .entry)) n (now (low .exit)) (now (high .exit)) ⌝ }
 {
     match divided_by {
-        1 => hand_out(counts::range_of(code, Divided::By1), low, high),
-        8 => hand_out(counts::range_of(code, Divided::By8), low, high),
-        16 => hand_out(counts::range_of(code, Divided::By16), low, high),
+        1 => give(counts::range_of(code, Divided::By1), low, high),
+        8 => give(counts::range_of(code, Divided::By8), low, high),
+        16 => give(counts::range_of(code, Divided::By16), low, high),
         _ => NOWHERE,
     }
 }
@@ -42,7 +43,7 @@ pub extern "C" fn lpmag_count_sum(
     low: &mut u64,
     high: &mut u64,
 ) -> u8
-    ensures { λ n. ⌜ RangeGiven (small (sumOf «low_a» «high_a» «low_b» «high_b»)) tooLarge (sumOf «low_a» «high_a» «low_b» «high_b») (now (low .entry)) (now (high .entry)) n (now (low .exit)) (now (high .exit)) ⌝ }
+    ensures { λ n. ⌜ RangeGiven (fits64 (sumOf «low_a» «high_a» «low_b» «high_b»)) tooLarge (sumOf «low_a» «high_a» «low_b» «high_b») (now (low .entry)) (now (high .entry)) n (now (low .exit)) (now (high .exit)) ⌝ }
 {
     let sum = counts::add(
         Range {
@@ -55,7 +56,7 @@ pub extern "C" fn lpmag_count_sum(
         },
     );
     match sum {
-        Sum::Within(r) => hand_out(r, low, high),
+        Sum::Within(r) => give(r, low, high),
         Sum::TooLarge => TOO_LARGE,
     }
 }

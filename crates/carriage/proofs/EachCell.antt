@@ -9,7 +9,7 @@ use lib.ListN.{length, getD}
 use borrow.Author.Tests.{eq-eqb, ne-eqb, lt-ltb, le-ltb, ltb-true, ltb-false}
 use Rattle.tables.proofs.Upto.{both, both-left, both-right, upto, upto-at}
 use Rattle.carriage.specs.Carriage.{samplesIn, types, scienceSize, cells, threeD, rows, runs, runsIn, total, someHas, byteIn, place, carrier, byteOf, Once}
-use Rattle.carriage.specs.Numbers.{restSize, restCell}
+use Rattle.carriage.specs.Steps.{restSize, restCell}
 use Rattle.carriage.proofs.Placed.{place-had, had-place, first-is, first-none}
 use Rattle.carriage.proofs.Finding.{sampleTypes, inHalf, restType, typeOf, in-header, in-samples, in-three}
 

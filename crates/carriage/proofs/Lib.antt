@@ -2,4 +2,4 @@ pub mod Placed
 pub mod Finding
 pub mod EachCell
 pub mod Rows
-pub mod Header
+pub mod Sums

@@ -1,2 +1,3 @@
 pub mod Carriage
 pub mod Numbers
+pub mod Steps

@@ -2,9 +2,9 @@
 ghost use mathlib.Core.Path.{_≡_};
 ghost use Prim.Native.Nat.{_<_, _≤_};
 ghost use Rattle.carriage.specs.Carriage.{threeD, carrier};
-ghost use Rattle.carriage.specs.Numbers.{restSize, restCell};
+ghost use Rattle.carriage.specs.Steps.{restSize, restCell};
 
-// Of each sample, through the bins, each bin's in time order.
+// Of each sample, through the bins, each bin's in time order. (Questions read it, not the laying of a frame.)
 const SAMPLES: [u8; 104] = [
     0,
     18,
@@ -119,8 +119,8 @@ fn sample_carrier(p: usize) -> usize
     SAMPLES[(p - 4) / 16] as usize
 }
 
-// Of what stands beside the samples, header and 3D bytes counted through: 3 bytes in types 0, 1, 2 and 9, 19 in types 3 and 10,
-// 51 in the others, 662 in all; and the same again in types 18 to 35.
+// Of what stands beside the samples, header and 3D bytes counted through: of types 0 to 17, types 0, 1, 2 and 9 carry 3 bytes,
+// types 3 and 10 carry 19, the others 51, 662 in all; and types 18 to 35 the same again.
 fn rest_carrier(x: usize) -> usize
     requires { ⌜ x < restSize ⌝ }
     ensures { λ t. ⌜ t ≡ carrier (restCell x) ⌝ }
@@ -156,6 +156,7 @@ pub fn carrier_of(p: usize) -> usize
         return sample_carrier(p);
     }
     if p < 2988 {
+        // 3D byte q, cell 1,668 + q, comes after the 4 header bytes
         return rest_carrier(p - 1664);
     }
     36

@@ -1,7 +1,7 @@
 // Which type carries which cells (000, section 2.3; 01, "ER cells").
 mod carriers;
-mod runs;
+mod numbers;
 
 pub use carriers::carrier_of;
-pub use runs::Runs;
-pub use runs::runs_of;
+pub use numbers::Numbers;
+pub use numbers::numbers_of;

@@ -7,15 +7,15 @@ use Prim.Native.Nat.{ℕ, _^_, _<_, _≤_}
 use lib.ListN.{length, getD}
 use borrow.Author.Tests.{eq-eqb, ne-eqb, lt-ltb, le-ltb}
 use Rattle.carriage.specs.Carriage.{types, scienceSize, cells}
-use Rattle.cells.specs.Laying.{cellsSize, frameType, laidFrame, layable, wasLaid, FrameLaid}
-use Rattle.cells.specs.Asking.{holdsCell, isCell, cellOf, rawSaid, byteGiven, CellIs}
+use Rattle.cells.specs.Laying.{cellsSize, frameType, laidFrame, layable, placedSaid, FrameLaid}
+use Rattle.cells.specs.Raw.{holdsCell, isCell, cellOf, rawSaid, byteGiven, CellIs}
 use Rattle.cells.specs.declared.laying.Placed.the-variants as placed
 use Rattle.cells.specs.declared.raw.Raw.the-variants as raw
 
 module _ (code : ℕ) (sc c : List ℕ) where
   not-laid : layable code sc c ≡ false → FrameLaid code sc c placed.NoSuchPlace c
-  unfolding wasLaid
-  not-laid e = record { is = rw e; says = rw e; room = rw e }
+  unfolding placedSaid
+  not-laid e = record { is = rw e; words = rw e; room = rw e }
 
   pub no-type : types ≤ frameType code → FrameLaid code sc c placed.NoSuchPlace c
   no-type h = not-laid (rw (le-ltb (frameType code) types h))
@@ -27,10 +27,10 @@ module _ (code : ℕ) (sc c : List ℕ) where
   no-cells h k l = not-laid (rw (lt-ltb (frameType code) types h, eq-eqb (length sc) scienceSize k, ne-eqb (length c) cellsSize l))
 
   pub is-laid : frameType code < types → length sc ≡ scienceSize → length c ≡ cellsSize → (c′ : List ℕ) → c′ ≡ laidFrame code sc c → FrameLaid code sc c placed.Laid c′
-  unfolding wasLaid
+  unfolding placedSaid
   is-laid h k l c′ e =
       let t : layable code sc c ≡ true = rw (lt-ltb (frameType code) types h, eq-eqb (length sc) scienceSize k, eq-eqb (length c) cellsSize l) in
-      record { is = rw t; says = rw t; room = rw t e }
+      record { is = rw t; words = rw t; room = rw t e }
 
 module _ (c : List ℕ) (held p : ℕ) where
   no-place : isCell c held p ≡ false → CellIs c held p raw.NoSuchPlace

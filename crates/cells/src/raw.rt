@@ -1,25 +1,27 @@
 // The byte of a cell, where its frame is held.
 ghost use mathlib.Core.Path.{_≡_};
-ghost use Rattle.cells.specs.Asking.{holdsCell, CellIs};
+ghost use Rattle.cells.specs.Raw.{holdsCell, CellIs};
 use crate::CELLS;
 use crate::SIZE;
 
+// The byte of a cell, or why there is none.
 pub enum Raw {
     Byte(u8),
     Absent,
     NoSuchPlace,
 }
 
-// Marks of types 0 to 35.
+// 2^36: from here on a mark above type 35 is set.
 const MARKS: u64 = 68719476736;
 
 // Is the frame held that carries cell p?
-fn has(held: u64, p: usize) -> bool
+fn holds_cell(held: u64, p: usize) -> bool
     ensures { λ b. ⌜ b ≡ holdsCell held p ⌝ }
 {
     (held >> carriage::carrier_of(p)) % 2 == 1
 }
 
+// Cell p, 0 to 2,987; `held` has bit u set when the frame of type u is held.
 pub fn cell(cells: &[u8], held: u64, p: usize) -> Raw
     ensures { λ r. ⌜ CellIs (now (cells .entry)) held p r ⌝ }
 {
@@ -32,7 +34,7 @@ pub fn cell(cells: &[u8], held: u64, p: usize) -> Raw
     if CELLS <= p {
         return Raw::NoSuchPlace;
     }
-    if !has(held, p) {
+    if !holds_cell(held, p) {
         return Raw::Absent;
     }
     Raw::Byte(cells[p])

@@ -5,29 +5,29 @@ use mathlib.Core.Bool.{true, false}
 use Prim.Native.Nat.{ℕ, _+_, _^_, _<_, _≤_}
 use native.Mathlib.Omega.{arith}
 use borrow.Author.Tests.{lt-ltb, le-ltb}
-use Rattle.counts.specs.Sums.{added, small, sumGiven, SumIs}
+use Rattle.counts.specs.Sums.{added, fits64, sumGiven, SumIs}
 use Rattle.counts.specs.declared.Range.{Range}
 use Rattle.counts.specs.declared.sums.Sum.the-variants.{Within, TooLarge}
 
 module _ (a b : Range) where
-  is-sum : small (added a b) ≡ true → SumIs a b (Within (added a b))
+  is-sum : fits64 (added a b) ≡ true → SumIs a b (Within (added a b))
   unfolding sumGiven
   is-sum e = record { is = rw e; given = rw e }
 
-  no-sum : small (added a b) ≡ false → SumIs a b TooLarge
+  no-sum : fits64 (added a b) ≡ false → SumIs a b TooLarge
   unfolding sumGiven
   no-sum e = record { is = rw e; given = rw e }
 
   pub summed : a .low + b .low < 2 ^ 64 → a .high + b .high < 2 ^ 64 → SumIs a b (Within (added a b))
-  unfolding small
+  unfolding fits64
   summed h k = is-sum (rw (lt-ltb (a .low + b .low) (2 ^ 64) h, lt-ltb (a .high + b .high) (2 ^ 64) k))
 
   pub low-past : 2 ^ 64 ≤ a .low + b .low → SumIs a b TooLarge
-  unfolding small
+  unfolding fits64
   low-past h = no-sum (rw (le-ltb (a .low + b .low) (2 ^ 64) h))
 
   pub high-past : a .low + b .low < 2 ^ 64 → 2 ^ 64 ≤ a .high + b .high → SumIs a b TooLarge
-  unfolding small
+  unfolding fits64
   high-past h k = no-sum (rw (lt-ltb (a .low + b .low) (2 ^ 64) h, le-ltb (a .high + b .high) (2 ^ 64) k))
 
 pub sum-holds : (a b : Range) (x y : ℕ) → a .low ≤ x → x ≤ a .high → b .low ≤ y → y ≤ b .high

@@ -1,4 +1,4 @@
--- The codes, by one test a code that is computed: no range is empty, each starts where the one before it ends, all are below
+-- The codes, by one test a code that is computed: no range is empty, each starts right after the one before it, all are below
 -- 524,288; and the shifts by which the code gets them lose nothing.
 -- Assumes nothing.
 use mathlib.Core.Path.{_≡_, _∙_}

@@ -82,7 +82,7 @@ in-divided x c By1 h = (omega (arith, h), omega (arith, h))
 in-divided x c By8 h = (omega (arith, h), omega (arith, h))
 in-divided x c By16 h = (omega (arith, h), omega (arith, h))
 
--- both ends of a range are far below 64 bits
+-- the products are far below 64 bits
 pub record Fitting (n l h : ℕ) : Type 0 where
   pub some : 1 ≤ n
   pub few : n ≤ 16

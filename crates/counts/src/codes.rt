@@ -38,6 +38,7 @@ fn undivided(code: u8) -> Range
     }
 }
 
+// The counts that a code stands for.
 pub fn range_of(code: u8, divided: Divided) -> Range
     ensures { λ r. ⌜ r ≡ rangeOf code divided ⌝ }
 {

@@ -10,6 +10,7 @@ pub enum Sum {
 
 const MOST: u64 = 18446744073709551615;
 
+// Lows and highs added.
 pub fn add(a: Range, b: Range) -> Sum
     ensures { λ s. ⌜ SumIs a b s ⌝ }
 {

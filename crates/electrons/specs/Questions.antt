@@ -12,13 +12,28 @@ use Rattle.counts.specs.declared.Range.{Range}
 use Rattle.counts.specs.declared.codes.Divided.{Divided}
 use Rattle.counts.specs.declared.codes.Divided.the-variants.{By1, By8, By16}
 use Rattle.carriage.specs.Carriage.{sampleSize, samplesIn, sampleCell, threeCell}
-use Rattle.cells.specs.Asking.{Words, noSuchPlace, absent, scaleUnknown, given, said, bitSet, holdsCell, askable}
+use Rattle.cells.specs.Words.{Words, noSuchPlace, absent, scaleUnknown, given, said}
+use Rattle.cells.specs.Raw.{bitSet, holdsCell, askable}
 use Rattle.electrons.specs.declared.questions.Count.{Count}
 use Rattle.electrons.specs.declared.questions.Count.the-variants.{Within, ScaleUnknown, Absent, NoSuchPlace}
 
--- a place there is, its frame held, its scale known, and the range that is then answered
-abbrev pub answer : Bool → Bool → Bool → Range → Count
-answer place held known r = cond place (cond held (cond known (Within r) ScaleUnknown) Absent) NoSuchPlace
+-- what a question comes to: whether there is such a place, whether its frame is held, whether its scale is known, and the range
+-- that is then answered
+pub record Asked : Type 0 where
+  pub place : Bool
+  pub held : Bool
+  pub known : Bool
+  pub range : Range
+
+abbrev pub answer : Asked → Count
+answer q = cond (q .place) (cond (q .held) (cond (q .known) (Within (q .range)) ScaleUnknown) Absent) NoSuchPlace
+
+abbrev pub words : Asked → Words
+words q = said (q .place) (q .held) (q .known)
+
+-- whether the answer is a range
+abbrev pub gives : Asked → Bool
+gives q = q .place && (q .held && q .known)
 
 -- the words of an answer, and the range that it gives
 unfoldable pub countSaid : Count → Words
@@ -34,10 +49,20 @@ rangeGiven Absent = none
 rangeGiven NoSuchPlace = none
 
 -- one answer; and its words and range, which follow
-pub record CountIs (place held known : Bool) (r : Range) (x : Count) : Type 0 where
-  pub is : x ≡ answer place held known r
-  pub words : countSaid x ≡ said place held known
-  pub range : rangeGiven x ≡ cond (place && (held && known)) (some r) none
+pub record CountIs (q : Asked) (x : Count) : Type 0 where
+  pub is : x ≡ answer q
+  pub says : countSaid x ≡ words q
+  pub range : rangeGiven x ≡ cond (gives q) (some (q .range)) none
+
+-- the header's cells
+abbrev pub stateCell : ℕ
+stateCell = 1
+
+abbrev pub totalCell : ℕ
+totalCell = 2
+
+abbrev pub rateCell : ℕ
+rateCell = 3
 
 -- a sample: energy bin 0-14, a number below the bin's samples, angle 0-15
 abbrev pub hasSample : ℕ → ℕ → ℕ → Bool
@@ -48,30 +73,34 @@ abbrev pub scalable : ℕ → Bool
 scalable b = ltb b 6 || (eqb b 7 || eqb b 8)
 
 abbrev pub dividedBy : List ℕ → ℕ → Divided
-dividedBy c b = cond (scalable b && bitSet (getD c 1 0) (b / 2)) By8 By1
+dividedBy c b = cond (scalable b && bitSet (getD c stateCell 0) (b / 2)) By8 By1
 
 -- "without the frame that carries the header, those bins answer "scale unknown""
 abbrev pub scaleKnown : ℕ → ℕ → Bool
-scaleKnown held b = not (scalable b) || holdsCell held 1
+scaleKnown held b = not (scalable b) || holdsCell held stateCell
 
-abbrev pub SampleIs : List ℕ → ℕ → ℕ → ℕ → ℕ → Count → Type 0
-SampleIs c held b s a =
-    CountIs (askable c held && hasSample b s a) (holdsCell held (sampleCell b s a)) (scaleKnown held b)
-    (rangeOf (getD c (sampleCell b s a) 0) (dividedBy c b))
+abbrev pub sampleAsked : List ℕ → ℕ → ℕ → ℕ → ℕ → Asked
+sampleAsked c held b s a =
+    record {
+      place = askable c held && hasSample b s a;
+      held = holdsCell held (sampleCell b s a);
+      known = scaleKnown held b;
+      range = rangeOf (getD c (sampleCell b s a) 0) (dividedBy c b);
+    }
 
--- a 3D cell: energy step 0-14, angle 0-87; never pre-scaled
+-- a 3D cell: energy step 0-14, angle 0-87; pre-scaling is of pitch angle data alone (000, section 2.3.1)
 abbrev pub hasThree : ℕ → ℕ → Bool
 hasThree e b = ltb e 15 && ltb b 88
 
-abbrev pub ThreeIs : List ℕ → ℕ → ℕ → ℕ → Count → Type 0
-ThreeIs c held e b = CountIs (askable c held && hasThree e b) (holdsCell held (threeCell e b)) true (rangeOf (getD c (threeCell e b) 0) By1)
+abbrev pub threeAsked : List ℕ → ℕ → ℕ → ℕ → Asked
+threeAsked c held e b =
+    record {
+      place = askable c held && hasThree e b;
+      held = holdsCell held (threeCell e b);
+      known = true;
+      range = rangeOf (getD c (threeCell e b) 0) By1;
+    }
 
 -- "Total and Rate (header bytes 2 and 3) are 16 x low to 16 x high + 15"
-abbrev pub HeaderIs : List ℕ → ℕ → ℕ → Count → Type 0
-HeaderIs c held p = CountIs (askable c held) (holdsCell held p) true (rangeOf (getD c p 0) By16)
-
-abbrev pub TotalIs : List ℕ → ℕ → Count → Type 0
-TotalIs c held = HeaderIs c held 2
-
-abbrev pub RateIs : List ℕ → ℕ → Count → Type 0
-RateIs c held = HeaderIs c held 3
+abbrev pub headerAsked : ℕ → List ℕ → ℕ → Asked
+headerAsked p c held = record { place = askable c held; held = holdsCell held p; known = true; range = rangeOf (getD c p 0) By16 }

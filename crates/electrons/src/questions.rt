@@ -1,13 +1,14 @@
 // The questions, and what a raw cell means (01, "Counts").
 ghost use mathlib.Core.Path.{_≡_};
 ghost use Prim.Native.Nat.{_<_};
-ghost use Rattle.electrons.specs.Questions.{SampleIs, ThreeIs, HeaderIs, TotalIs, RateIs};
+ghost use Rattle.electrons.specs.Questions.{CountIs, totalCell, rateCell, sampleAsked, threeAsked, headerAsked};
 ghost use Rattle.electrons.specs.Steps.{meaning};
 use crate::scale::Scale;
 use cells::Raw;
 use counts::Divided;
 use counts::Range;
 
+// The counts that a cell stands for, or why none can be said.
 pub enum Count {
     Within(Range),
     ScaleUnknown,
@@ -30,7 +31,7 @@ fn meaning_of(raw: Raw, scale: Scale) -> Count
 
 // A sample at one of its 16 angles.
 pub fn sample(cells: &[u8], held: u64, bin: usize, number: usize, angle: usize) -> Count
-    ensures { λ x. ⌜ SampleIs (now (cells .entry)) held bin number angle x ⌝ }
+    ensures { λ x. ⌜ CountIs (sampleAsked (now (cells .entry)) held bin number angle) x ⌝ }
 {
     let place = crate::places::sample_place(bin, number, angle);
     let raw = cells::cell(cells, held, place);
@@ -40,7 +41,7 @@ pub fn sample(cells: &[u8], held: u64, bin: usize, number: usize, angle: usize) 
 
 // A 3D count.
 pub fn three_d(cells: &[u8], held: u64, step: usize, angle: usize) -> Count
-    ensures { λ x. ⌜ ThreeIs (now (cells .entry)) held step angle x ⌝ }
+    ensures { λ x. ⌜ CountIs (threeAsked (now (cells .entry)) held step angle) x ⌝ }
 {
     let place = crate::places::three_place(step, angle);
     let raw = cells::cell(cells, held, place);
@@ -50,7 +51,7 @@ pub fn three_d(cells: &[u8], held: u64, step: usize, angle: usize) -> Count
 // A count of the header: both were divided by 16.
 fn header_count(cells: &[u8], held: u64, p: usize) -> Count
     requires { ⌜ p < 4 ⌝ }
-    ensures { λ x. ⌜ HeaderIs (now (cells .entry)) held p x ⌝ }
+    ensures { λ x. ⌜ CountIs (headerAsked p (now (cells .entry)) held) x ⌝ }
 {
     let raw = cells::cell(cells, held, p);
     meaning_of(raw, Scale::Known(Divided::By16))
@@ -58,14 +59,14 @@ fn header_count(cells: &[u8], held: u64, p: usize) -> Count
 
 // Total Counts of the first half-spin, header byte 2.
 pub fn total(cells: &[u8], held: u64) -> Count
-    ensures { λ x. ⌜ TotalIs (now (cells .entry)) held x ⌝ }
+    ensures { λ x. ⌜ CountIs (headerAsked totalCell (now (cells .entry)) held) x ⌝ }
 {
     header_count(cells, held, 2)
 }
 
 // The Rate Counter of the first half-spin, header byte 3.
 pub fn rate(cells: &[u8], held: u64) -> Count
-    ensures { λ x. ⌜ RateIs (now (cells .entry)) held x ⌝ }
+    ensures { λ x. ⌜ CountIs (headerAsked rateCell (now (cells .entry)) held) x ⌝ }
 {
     header_count(cells, held, 3)
 }

@@ -7,10 +7,10 @@ use Rattle.angles.proofs.angle_of.Statement.{statement}
 use Rattle.angles.proofs.angle_of.Tie as tie
 
 returns : tie.Need-returns
-returns c = let a = c .before .args in no-anode (a .anode) (a .phase) (c .if1 .taken)
+returns c = let a = c .before .args in no-anode (a .anode) (a .phase) (omega arith)
 
 returns-2 : tie.Need-returns-2
-returns-2 c = let a = c .before .before .args in no-phase (a .anode) (a .phase) (c .before .if1 .left) (c .if2 .taken)
+returns-2 c = let a = c .before .before .args in no-phase (a .anode) (a .phase) (omega arith) (omega arith)
 
 mul-row : tie.Need-mul-row
 mul-row c = search needs
@@ -23,15 +23,15 @@ cast-t26 c = search needs
 
 div-t27 : tie.Need-div-t27
 unfolding table
-div-t27 c = let a = c .before .before .before .before .args in can-divide (a .anode) (a .phase) (c .before .before .before .if1 .left)
+div-t27 c = let a = c .before .before .before .before .args in can-divide (a .anode) (a .phase) (omega arith)
 
 add-t28 : tie.Need-add-t28
 unfolding table
-add-t28 c = let a = c .before .before .before .before .before .args in record { fits = omega (arith, sum-small (a .anode) (a .phase) (c .before .before .before .before .if1 .left) (c .before .before .before .if2 .left)) }
+add-t28 c = let a = c .before .before .before .before .before .args in record { fits = omega (arith, sum-small (a .anode) (a .phase) (omega arith) (omega arith)) }
 
 returns-3 : tie.Need-returns-3
 unfolding table
-returns-3 c = let a = c .before .before .before .before .before .args in at-angle (a .anode) (a .phase) (c .before .before .before .before .if1 .left) (c .before .before .before .if2 .left)
+returns-3 c = let a = c .before .before .before .before .before .args in at-angle (a .anode) (a .phase) (omega arith) (omega arith)
 
 pub angle-of-spec : {M : Type 1} → statement M
 angle-of-spec =

@@ -3,13 +3,16 @@
 use denote.Ref.{now}
 use Rattle.electrons.specs.Questions.{countSaid}
 use Rattle.capi.specs.Electrons.{wordsNumber}
-use Rattle.capi.proofs.Counts.{handed}
+use Rattle.capi.proofs.Counts.{handed, handed-range}
 use borrow.Author.Needs.{needs}
 use Rattle.capi.proofs.accumulation.hand_out.Statement.{statement}
 use Rattle.capi.proofs.accumulation.hand_out.Tie as tie
 
 enum-known-answer : tie.Need-enum-known-answer
 enum-known-answer c = search needs
+
+give-requires : tie.Need-give-requires
+give-requires c κs = search needs
 
 enum-told : tie.Need-enum-told
 enum-told c = search needs
@@ -21,8 +24,7 @@ enum-told-3 : tie.Need-enum-told-3
 enum-told-3 c = search needs
 
 returns : tie.Need-returns
-unfolding wordsNumber countSaid
-returns c = let a = c .before .before .before .args in handed (a .answer) _ (now (a .low)) (now (a .high)) (c .before .answer .given .1)
+returns c = let a = c .before .before .before .before .before .before .args in handed-range (a .answer) _ (now (a .low)) (now (a .high)) _ _ _ (c .before .before .before .before .answer .given .1) (c .give .ensures)
 
 returns-2 : tie.Need-returns-2
 unfolding wordsNumber countSaid
@@ -41,6 +43,7 @@ hand-out-spec =
     tie.close
     (tie.spec
     enum-known-answer
+    give-requires
     enum-told
     enum-told-2
     enum-told-3

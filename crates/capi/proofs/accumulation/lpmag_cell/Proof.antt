@@ -1,7 +1,7 @@
 -- `capi::accumulation::lpmag_cell` meets its contract.
 -- Assumes nothing.
 use denote.Ref.{now}
-use Rattle.cells.specs.Asking.{rawSaid}
+use Rattle.cells.specs.Raw.{rawSaid}
 use Rattle.capi.specs.Electrons.{wordsNumber}
 use Rattle.capi.proofs.Counts.{byte-told}
 use borrow.Author.Needs.{needs}

@@ -13,7 +13,7 @@ hand-out-requires : tie.Need-hand-out-requires
 hand-out-requires c κs = search needs
 
 returns : tie.Need-returns
-returns c = let a = c .before .before .before .before .before .args in count-told _ _ _ _ (c .before .before .before .three-d .result) (now (a .low)) (now (a .high)) _ _ _ (c .before .before .before .three-d .ensures) (c .hand-out .ensures)
+returns c = let a = c .before .before .before .before .before .args in count-told _ (c .before .before .before .three-d .result) (now (a .low)) (now (a .high)) _ _ _ (c .before .before .before .three-d .ensures) (c .hand-out .ensures)
 
 pub lpmag-three-d-spec : {M : Type 1} → statement M
 lpmag-three-d-spec = tie.close (tie.spec three-d-requires hand-out-requires returns)

@@ -13,7 +13,7 @@ hand-out-requires : tie.Need-hand-out-requires
 hand-out-requires c κs = search needs
 
 returns : tie.Need-returns
-returns c = let a = c .before .before .before .before .before .args in count-told _ _ _ _ (c .before .before .before .total .result) (now (a .low)) (now (a .high)) _ _ _ (c .before .before .before .total .ensures) (c .hand-out .ensures)
+returns c = let a = c .before .before .before .before .before .args in count-told _ (c .before .before .before .total .result) (now (a .low)) (now (a .high)) _ _ _ (c .before .before .before .total .ensures) (c .hand-out .ensures)
 
 pub lpmag-total-spec : {M : Type 1} → statement M
 lpmag-total-spec = tie.close (tie.spec total-requires hand-out-requires returns)

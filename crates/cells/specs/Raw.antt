@@ -1,26 +1,17 @@
--- What may be said of a cell (01, "Counts" and the last paragraph of "Angles"): "no such place", which is tested before "absent".
+-- What may be said of a cell (01, "Counts" and the last paragraph of "The packet"): "no such place", which is tested before "absent".
 -- Assumes nothing.
 use Prim.Native.Nat.{ℕ, _/_, _%_, _^_}
-use mathlib.Core.Bool.{Bool, true, false, cond, _&&_}
+use mathlib.Core.Bool.{Bool, true, cond, _&&_}
 use mathlib.Core.List.{List}
 use mathlib.Core.Option.{Option, none, some}
 use mathlib.Core.Path.{_≡_}
 use lib.Dec.{eqb, ltb}
 use lib.ListN.{length, getD}
 use Rattle.carriage.specs.Carriage.{types, cells, carrier}
+use Rattle.cells.specs.Words.{Words, noSuchPlace, absent, given, said}
 use Rattle.cells.specs.Laying.{cellsSize}
 use Rattle.cells.specs.declared.raw.Raw.{Raw}
 use Rattle.cells.specs.declared.raw.Raw.the-variants.{Byte, Absent, NoSuchPlace}
-
--- 01's words, in the order in which they are tested
-pub data Words : Type 0 where
-  noSuchPlace : Words
-  absent : Words
-  scaleUnknown : Words
-  given : Words
-
-abbrev pub said : Bool → Bool → Bool → Words
-said place held known = cond place (cond held (cond known given scaleUnknown) absent) noSuchPlace
 
 -- bit k of a number, of weight 2^k
 abbrev pub bitSet : ℕ → ℕ → Bool

@@ -1,4 +1,4 @@
--- `carriage::runs::runs_of` meets its contract: each arm is its row of the printed table.
+-- `carriage::numbers::numbers_of` meets its contract: each arm is its row of the printed table.
 -- Assumes nothing.
 use mathlib.Core.Path.{_≡_, sym, ap}
 use mathlib.Core.List.{[], _∷_}
@@ -10,8 +10,8 @@ use types.Run.{OneOf}
 use Rattle.tables.specs.Build.{build}
 use Rattle.carriage.specs.Carriage.{samplesIn, rows, rowOf, carries, none}
 use Rattle.carriage.specs.Numbers.{numbersOf}
-use Rattle.carriage.proofs.runs.runs_of.Statement.{statement}
-use Rattle.carriage.proofs.runs.runs_of.Tie as tie
+use Rattle.carriage.proofs.numbers.numbers_of.Statement.{statement}
+use Rattle.carriage.proofs.numbers.numbers_of.Tie as tie
 
 row : (k t : ℕ) → t ≡ k → numbersOf k ≡ numbersOf t
 row k t e = ap numbersOf (sym e)
@@ -28,12 +28,12 @@ none-below (suc n) t h = omega (arith, none-below n t (h .0), lt-of-le-ne (none-
 above : (t : ℕ) → 36 ≤ t → numbersOf 36 ≡ numbersOf t
 unfolding numbersOf rows
 above t h =
-    let e : rowOf t ≡ carries [] none none = List·getD-eq-default rows (carries [] none none) h in
+    let e : rowOf t ≡ carries 36 [] none none = List·getD-eq-default rows (carries 36 [] none none) h in
     rw e
 
-pub runs-of-spec : {M : Type 1} → statement M
+pub numbers-of-spec : {M : Type 1} → statement M
 unfolding numbersOf samplesIn rows build
-runs-of-spec =
+numbers-of-spec =
     tie.close
     (tie.spec
     (λ c. row 0 (c .before .args .t) (c .match .keys1))

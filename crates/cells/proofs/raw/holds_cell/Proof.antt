@@ -1,10 +1,10 @@
--- `cells::raw::has` meets its contract.
+-- `cells::raw::holds_cell` meets its contract.
 -- Assumes nothing.
 use Rattle.carriage.proofs.EachCell.{carrier-small}
 use native.Mathlib.Omega.{arith}
 use borrow.Author.Needs.{needs}
-use Rattle.cells.proofs.raw.has.Statement.{statement}
-use Rattle.cells.proofs.raw.has.Tie as tie
+use Rattle.cells.proofs.raw.holds_cell.Statement.{statement}
+use Rattle.cells.proofs.raw.holds_cell.Tie as tie
 
 carrier-of-requires : tie.Need-carrier-of-requires
 carrier-of-requires c κs = search needs
@@ -15,5 +15,5 @@ shr-result c = omega (arith, c .carrier-of .ensures, carrier-small (c .before .a
 returns : tie.Need-returns
 returns c = rw (c .carrier-of .ensures)
 
-pub has-spec : {M : Type 1} → statement M
-has-spec = tie.close (tie.spec carrier-of-requires shr-result returns)
+pub holds-cell-spec : {M : Type 1} → statement M
+holds-cell-spec = tie.close (tie.spec carrier-of-requires shr-result returns)

@@ -1,0 +1,17 @@
+-- Steps of the code. Only private functions promise these, here and in `cells`; no public promise rests on them.
+-- Assumes nothing.
+use Prim.Native.Nat.{ℕ, _+_, _-_}
+use mathlib.Core.Bool.{Bool, cond, _||_}
+use lib.Dec.{eqb, ltb}
+use Rattle.carriage.specs.Carriage.{threeD}
+
+-- "from two to five 16-angle pitch angle samples" (000, section 2.3): two, four or five in format 1
+abbrev pub isSampleCount : ℕ → Bool
+isSampleCount n = eqb n 2 || (eqb n 4 || eqb n 5)
+
+-- the cells beside the samples, header and 3D counted through
+abbrev pub restSize : ℕ
+restSize = 1324
+
+abbrev pub restCell : ℕ → ℕ
+restCell x = cond (ltb x 4) x (threeD + (x - 4))
