@@ -139,9 +139,8 @@ uint8_t lpmag_cell(const uint8_t *cells, size_t length, uint64_t held, size_t ce
 
 /* The counts that a pitch-angle sample stands for, from *low to *high: energy
  * bin 0 to 14, the sample's number in its bin, from 0 in time order, angle 0 to
- * 15. Bins 0-5, 7 and 8
- * may be pre-scaled: they answer LPMAG_SCALE_UNKNOWN when the sample is held but
- * type 0, which carries the pre-scale state, isn't. */
+ * 15. Bins 0-5, 7 and 8 may be pre-scaled: they answer LPMAG_SCALE_UNKNOWN when
+ * the sample is held but type 0, which carries the pre-scale state, isn't. */
 uint8_t lpmag_electron_sample(const uint8_t *cells, size_t length, uint64_t held, size_t bin,
                               size_t number, size_t angle, uint64_t *low, uint64_t *high);
 

@@ -5,13 +5,13 @@ use mathlib.Core.Bool.{Bool, true, false, cond}
 use Prim.Native.Nat.{ℕ, _+_, _*_, _-_, _%_, _/_, _<_, _≤_}
 use native.Mathlib.Omega.{arith}
 use lib.Dec.{T, eqb, ltb, eqb→eq, ltb→lt}
-use lib.ListN.{length, getD}
+use lib.ListN.{length}
 use borrow.Author.Tests.{eq-eqb, ne-eqb, lt-ltb, le-ltb, ltb-true, ltb-false}
 use Rattle.tables.proofs.Upto.{both, both-left, both-right, upto, upto-at}
 use Rattle.carriage.specs.Carriage.{samplesIn, types, scienceSize, cells, threeD, rows, runs, runsIn, total, someHas, byteIn, place, carrier, byteOf, Once}
 use Rattle.carriage.specs.Steps.{restSize, restCell}
 use Rattle.carriage.proofs.Placed.{place-had, had-place, first-is, first-none}
-use Rattle.carriage.proofs.Finding.{sampleTypes, inHalf, restType, typeOf, in-header, in-samples, in-three}
+use Rattle.carriage.proofs.Finding.{sampleIn, inHalf, restType, typeOf, in-header, in-samples, in-three}
 
 -- the science byte of a type that goes to cell p
 abbrev byteFor : ℕ → ℕ → ℕ
@@ -30,7 +30,7 @@ right : ℕ → Bool
 right t = both (eqb (total (runsIn runs t)) scienceSize) (upto (λ k. both (there t k) (back (t * scienceSize + k))) scienceSize)
 
 all-right : (t : ℕ) → t < types → T (right t)
-unfolding both right there back place typeOf restType sampleTypes samplesIn rows runs
+unfolding both right there back place typeOf restType samplesIn rows runs
 all-right = upto-at right types tt
 
 -- 83 cells a type
@@ -158,11 +158,8 @@ rest-is x h = go (ltb x 4) refl
         let q : threeD + (x - 4) - 1664 ≡ x = omega arith in
         sym (carrier-is (threeD + (x - 4)) (omega arith) ∙ in-three (threeD + (x - 4)) (omega arith) (omega arith) ∙ ap restType q)
 
-pub sample-is : (p : ℕ) → 4 ≤ p → p < threeD → getD sampleTypes ((p - 4) / 16) 0 ≡ carrier p
+pub sample-is : (p : ℕ) → 4 ≤ p → p < threeD → sampleIn ((p - 4) / 16) ≡ carrier p
 sample-is p l h = sym (carrier-is p (omega arith) ∙ in-samples p l h)
-
-pub sample-small : (p : ℕ) → 4 ≤ p → p < threeD → getD sampleTypes ((p - 4) / 16) 0 < types
-sample-small p l h = rw (sample-is p l h) (once p (omega arith) .is-type)
 
 -- a cell below 4 or from 1,668 on as a cell beside the samples
 pub header-rest : (p : ℕ) → p < 4 → restCell p ≡ p

@@ -2,15 +2,20 @@
 -- Assumes nothing.
 use mathlib.Core.Path.{_≡_}
 use mathlib.Core.Bool.{cond}
-use mathlib.Core.List.{List, [], _∷_}
 use Prim.Native.Nat.{ℕ, _+_, _*_, _-_, _/_, _%_, _<_, _≤_}
 use lib.Dec.{ltb}
-use lib.ListN.{getD}
+use Rattle.carriage.specs.Steps.{halfSpinType}
 use borrow.Author.Tests.{lt-ltb, le-ltb}
 
 -- of each sample, through the bins
-unfoldable pub sampleTypes : List ℕ
-sampleTypes = 0 ∷ 18 ∷ 0 ∷ 18 ∷ 0 ∷ 18 ∷ 0 ∷ 18 ∷ 0 ∷ 18 ∷ 1 ∷ 19 ∷ 1 ∷ 3 ∷ 3 ∷ 4 ∷ 5 ∷ 6 ∷ 7 ∷ 8 ∷ 9 ∷ 11 ∷ 12 ∷ 13 ∷ 14 ∷ 15 ∷ 16 ∷ 17 ∷ 19 ∷ 21 ∷ 21 ∷ 22 ∷ 23 ∷ 24 ∷ 25 ∷ 26 ∷ 27 ∷ 29 ∷ 30 ∷ 31 ∷ 32 ∷ 33 ∷ 34 ∷ 35 ∷ 1 ∷ 9 ∷ 19 ∷ 27 ∷ 1 ∷ 9 ∷ 19 ∷ 27 ∷ 1 ∷ 3 ∷ 3 ∷ 4 ∷ 5 ∷ 6 ∷ 7 ∷ 8 ∷ 9 ∷ 11 ∷ 12 ∷ 13 ∷ 14 ∷ 15 ∷ 16 ∷ 17 ∷ 19 ∷ 21 ∷ 21 ∷ 22 ∷ 23 ∷ 24 ∷ 25 ∷ 26 ∷ 27 ∷ 29 ∷ 30 ∷ 31 ∷ 32 ∷ 33 ∷ 34 ∷ 35 ∷ 2 ∷ 9 ∷ 20 ∷ 27 ∷ 2 ∷ 10 ∷ 20 ∷ 28 ∷ 2 ∷ 10 ∷ 20 ∷ 28 ∷ 2 ∷ 10 ∷ 20 ∷ 28 ∷ 2 ∷ 10 ∷ 20 ∷ 28 ∷ []
+abbrev pub sampleIn : ℕ → ℕ
+sampleIn j =
+    cond (ltb j 10) (18 * (j % 2))
+    (cond (ltb j 12) (18 * (j % 2) + 1)
+    (cond (ltb j 44) (halfSpinType (j - 12))
+    (cond (ltb j 52) (18 * (j / 2 % 2) + 8 * (j % 2) + 1)
+    (cond (ltb j 84) (halfSpinType (j - 52))
+    (cond (ltb j 88) (18 * (j / 2 % 2) + 7 * (j % 2) + 2) (18 * (j / 2 % 2) + 8 * (j % 2) + 2))))))
 
 -- of what stands beside the samples, header and 3D counted through
 abbrev pub inHalf : ℕ → ℕ → ℕ
@@ -25,14 +30,14 @@ unfoldable pub restType : ℕ → ℕ
 restType x = inHalf (18 * (x / 662)) (x % 662)
 
 unfoldable pub typeOf : ℕ → ℕ
-typeOf p = cond (ltb p 4) (restType p) (cond (ltb p 1668) (getD sampleTypes ((p - 4) / 16) 0) (restType (p - 1664)))
+typeOf p = cond (ltb p 4) (restType p) (cond (ltb p 1668) (sampleIn ((p - 4) / 16)) (restType (p - 1664)))
 
 module _ (p : ℕ) where
   pub in-header : p < 4 → typeOf p ≡ restType p
   unfolding typeOf
   in-header h = rw (lt-ltb p 4 h)
 
-  pub in-samples : 4 ≤ p → p < 1668 → typeOf p ≡ getD sampleTypes ((p - 4) / 16) 0
+  pub in-samples : 4 ≤ p → p < 1668 → typeOf p ≡ sampleIn ((p - 4) / 16)
   unfolding typeOf
   in-samples l h = rw (le-ltb p 4 l, lt-ltb p 1668 h)
 
@@ -59,3 +64,25 @@ module _ (half y : ℕ) where
 
   pub rest-662 : 9 ≤ y → 28 ≤ y → 283 ≤ y → 286 ≤ y → 305 ≤ y → half + 11 + (y - 305) / 51 ≡ inHalf half y
   rest-662 a b c d e = rw (le-ltb y 9 a, le-ltb y 28 b, le-ltb y 283 c, le-ltb y 286 d, le-ltb y 305 e)
+
+module _ (j : ℕ) where
+  pub sample-10 : j < 10 → 18 * (j % 2) ≡ sampleIn j
+  sample-10 h = rw (lt-ltb j 10 h)
+
+  pub sample-12 : 10 ≤ j → j < 12 → 18 * (j % 2) + 1 ≡ sampleIn j
+  sample-12 a h = rw (le-ltb j 10 a, lt-ltb j 12 h)
+
+  pub sample-44 : 10 ≤ j → 12 ≤ j → j < 44 → halfSpinType (j - 12) ≡ sampleIn j
+  sample-44 a b h = rw (le-ltb j 10 a, le-ltb j 12 b, lt-ltb j 44 h)
+
+  pub sample-52 : 10 ≤ j → 12 ≤ j → 44 ≤ j → j < 52 → 18 * (j / 2 % 2) + 8 * (j % 2) + 1 ≡ sampleIn j
+  sample-52 a b c h = rw (le-ltb j 10 a, le-ltb j 12 b, le-ltb j 44 c, lt-ltb j 52 h)
+
+  pub sample-84 : 10 ≤ j → 12 ≤ j → 44 ≤ j → 52 ≤ j → j < 84 → halfSpinType (j - 52) ≡ sampleIn j
+  sample-84 a b c d h = rw (le-ltb j 10 a, le-ltb j 12 b, le-ltb j 44 c, le-ltb j 52 d, lt-ltb j 84 h)
+
+  pub sample-88 : 10 ≤ j → 12 ≤ j → 44 ≤ j → 52 ≤ j → 84 ≤ j → j < 88 → 18 * (j / 2 % 2) + 7 * (j % 2) + 2 ≡ sampleIn j
+  sample-88 a b c d e h = rw (le-ltb j 10 a, le-ltb j 12 b, le-ltb j 44 c, le-ltb j 52 d, le-ltb j 84 e, lt-ltb j 88 h)
+
+  pub sample-104 : 10 ≤ j → 12 ≤ j → 44 ≤ j → 52 ≤ j → 84 ≤ j → 88 ≤ j → 18 * (j / 2 % 2) + 8 * (j % 2) + 2 ≡ sampleIn j
+  sample-104 a b c d e f = rw (le-ltb j 10 a, le-ltb j 12 b, le-ltb j 44 c, le-ltb j 52 d, le-ltb j 84 e, le-ltb j 88 f)

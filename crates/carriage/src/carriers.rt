@@ -2,121 +2,53 @@
 ghost use mathlib.Core.Path.{_≡_};
 ghost use Prim.Native.Nat.{_<_, _≤_};
 ghost use Rattle.carriage.specs.Carriage.{threeD, carrier};
-ghost use Rattle.carriage.specs.Steps.{restSize, restCell};
+ghost use Rattle.carriage.specs.Steps.{halfSpinType, restSize, restCell};
 
-// Of each sample, through the bins, each bin's in time order. (Questions read it, not the laying of a frame.)
-const SAMPLES: [u8; 104] = [
-    0,
-    18,
-    0,
-    18,
-    0,
-    18,
-    0,
-    18,
-    0,
-    18,
-    1,
-    19,
-    1,
-    3,
-    3,
-    4,
-    5,
-    6,
-    7,
-    8,
-    9,
-    11,
-    12,
-    13,
-    14,
-    15,
-    16,
-    17,
-    19,
-    21,
-    21,
-    22,
-    23,
-    24,
-    25,
-    26,
-    27,
-    29,
-    30,
-    31,
-    32,
-    33,
-    34,
-    35,
-    1,
-    9,
-    19,
-    27,
-    1,
-    9,
-    19,
-    27,
-    1,
-    3,
-    3,
-    4,
-    5,
-    6,
-    7,
-    8,
-    9,
-    11,
-    12,
-    13,
-    14,
-    15,
-    16,
-    17,
-    19,
-    21,
-    21,
-    22,
-    23,
-    24,
-    25,
-    26,
-    27,
-    29,
-    30,
-    31,
-    32,
-    33,
-    34,
-    35,
-    2,
-    9,
-    20,
-    27,
-    2,
-    10,
-    20,
-    28,
-    2,
-    10,
-    20,
-    28,
-    2,
-    10,
-    20,
-    28,
-    2,
-    10,
-    20,
-    28,
-];
+// Of sample s of bin 6 or 9, one every half-spin: S0 rides in type 1, S1 and S2 in type 3, S3 to S7 in types 4 to 8, S8 in type 9,
+// S9 to S15 in types 11 to 17; and the next sixteen likewise, 18 types later.
+fn half_spin_carrier(s: usize) -> usize
+    requires { ⌜ s < 32 ⌝ }
+    ensures { λ t. ⌜ t ≡ halfSpinType s ⌝ }
+{
+    let half = 18 * (s / 16);
+    let k = s % 16;
+    if k == 0 {
+        return half + 1;
+    }
+    if k == 1 {
+        return half + 3;
+    }
+    if k < 9 {
+        return half + k + 1;
+    }
+    half + k + 2
+}
 
+// Of any sample: bins 0-4, 5, 6, 7 and 8, 9, 10, 11-14. A bin's later half rides 18 types after the earlier.
 fn sample_carrier(p: usize) -> usize
     requires { ⌜ (4 ≤ p) × (p < threeD) ⌝ }
     ensures { λ t. ⌜ t ≡ carrier p ⌝ }
 {
-    SAMPLES[(p - 4) / 16] as usize
+    let j = (p - 4) / 16;
+    if j < 10 {
+        return 18 * (j % 2);
+    }
+    if j < 12 {
+        return 18 * (j % 2) + 1;
+    }
+    if j < 44 {
+        return half_spin_carrier(j - 12);
+    }
+    if j < 52 {
+        return 18 * (j / 2 % 2) + 8 * (j % 2) + 1;
+    }
+    if j < 84 {
+        return half_spin_carrier(j - 52);
+    }
+    if j < 88 {
+        return 18 * (j / 2 % 2) + 7 * (j % 2) + 2;
+    }
+    18 * (j / 2 % 2) + 8 * (j % 2) + 2
 }
 
 // Of what stands beside the samples, header and 3D bytes counted through: of types 0 to 17, types 0, 1, 2 and 9 carry 3 bytes,

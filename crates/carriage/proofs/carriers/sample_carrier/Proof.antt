@@ -1,25 +1,115 @@
 -- `carriage::carriers::sample_carrier` meets its contract.
 -- Assumes nothing.
-use Rattle.carriage.proofs.Finding.{sampleTypes}
-use Rattle.carriage.proofs.EachCell.{sample-is, sample-small}
+use mathlib.Core.Path.{_∙_}
+use Prim.Native.Nat.{_-_, _/_}
+use Rattle.carriage.proofs.Finding.{sample-10, sample-12, sample-44, sample-52, sample-84, sample-88, sample-104}
+use Rattle.carriage.proofs.EachCell.{sample-is}
 use native.Mathlib.Omega.{arith}
 use borrow.Author.Needs.{needs}
 use Rattle.carriage.proofs.carriers.sample_carrier.Statement.{statement}
 use Rattle.carriage.proofs.carriers.sample_carrier.Tie as tie
 
-sub-result : tie.Need-sub-result
-sub-result c = search needs
+sub-j : tie.Need-sub-j
+sub-j c = search needs
 
-array-read-result : tie.Need-array-read-result
-array-read-result c = search needs
-
-cast-result : tie.Need-cast-result
-unfolding sampleTypes
-cast-result c = record { fits = omega (arith, sample-small (c .args .p) (c .pre .0) (c .pre .1)) }
+mul-result : tie.Need-mul-result
+mul-result c = search needs
 
 returns : tie.Need-returns
-unfolding sampleTypes
-returns c = sample-is (c .args .p) (c .pre .0) (c .pre .1)
+returns c = let k = c .before in sample-10 ((k .args .p - 4) / 16) (omega arith) ∙ sample-is (k .args .p) (k .pre .0) (k .pre .1)
+
+mul-result-2 : tie.Need-mul-result-2
+mul-result-2 c = search needs
+
+add-result : tie.Need-add-result
+add-result c = search needs
+
+returns-2 : tie.Need-returns-2
+returns-2 c = let k = c .before .before in sample-12 ((k .args .p - 4) / 16) (omega arith) (omega arith) ∙ sample-is (k .args .p) (k .pre .0) (k .pre .1)
+
+half-spin-carrier-requires : tie.Need-half-spin-carrier-requires
+half-spin-carrier-requires c κs = search needs
+
+returns-3 : tie.Need-returns-3
+returns-3 c = let k = c .before .before .before .before in c .half-spin-carrier .ensures ∙ sample-44 ((k .args .p - 4) / 16) (omega arith) (omega arith) (omega arith) ∙ sample-is (k .args .p) (k .pre .0) (k .pre .1)
+
+mul-result-3 : tie.Need-mul-result-3
+mul-result-3 c = search needs
+
+mul-result-4 : tie.Need-mul-result-4
+mul-result-4 c = search needs
+
+add-result-2 : tie.Need-add-result-2
+add-result-2 c = search needs
+
+add-result-3 : tie.Need-add-result-3
+add-result-3 c = search needs
+
+returns-4 : tie.Need-returns-4
+returns-4 c = let k = c .before .before .before .before in sample-52 ((k .args .p - 4) / 16) (omega arith) (omega arith) (omega arith) (omega arith) ∙ sample-is (k .args .p) (k .pre .0) (k .pre .1)
+
+half-spin-carrier-requires-2 : tie.Need-half-spin-carrier-requires-2
+half-spin-carrier-requires-2 c κs = search needs
+
+returns-5 : tie.Need-returns-5
+returns-5 c = let k = c .before .before .before .before .before .before in c .half-spin-carrier2 .ensures ∙ sample-84 ((k .args .p - 4) / 16) (omega arith) (omega arith) (omega arith) (omega arith) (omega arith) ∙ sample-is (k .args .p) (k .pre .0) (k .pre .1)
+
+mul-result-5 : tie.Need-mul-result-5
+mul-result-5 c = search needs
+
+mul-result-6 : tie.Need-mul-result-6
+mul-result-6 c = search needs
+
+add-result-4 : tie.Need-add-result-4
+add-result-4 c = search needs
+
+add-result-5 : tie.Need-add-result-5
+add-result-5 c = search needs
+
+returns-6 : tie.Need-returns-6
+returns-6 c = let k = c .before .before .before .before .before .before in sample-88 ((k .args .p - 4) / 16) (omega arith) (omega arith) (omega arith) (omega arith) (omega arith) (omega arith) ∙ sample-is (k .args .p) (k .pre .0) (k .pre .1)
+
+mul-result-7 : tie.Need-mul-result-7
+mul-result-7 c = search needs
+
+mul-result-8 : tie.Need-mul-result-8
+mul-result-8 c = search needs
+
+add-result-6 : tie.Need-add-result-6
+add-result-6 c = search needs
+
+add-result-7 : tie.Need-add-result-7
+add-result-7 c = search needs
+
+returns-7 : tie.Need-returns-7
+returns-7 c = let k = c .before .before .before .before .before .before in sample-104 ((k .args .p - 4) / 16) (omega arith) (omega arith) (omega arith) (omega arith) (omega arith) (omega arith) ∙ sample-is (k .args .p) (k .pre .0) (k .pre .1)
 
 pub sample-carrier-spec : {M : Type 1} → statement M
-sample-carrier-spec = tie.close (tie.spec sub-result array-read-result cast-result returns)
+sample-carrier-spec =
+    tie.close
+    (tie.spec
+    sub-j
+    mul-result
+    returns
+    mul-result-2
+    add-result
+    returns-2
+    half-spin-carrier-requires
+    returns-3
+    mul-result-3
+    mul-result-4
+    add-result-2
+    add-result-3
+    returns-4
+    half-spin-carrier-requires-2
+    returns-5
+    mul-result-5
+    mul-result-6
+    add-result-4
+    add-result-5
+    returns-6
+    mul-result-7
+    mul-result-8
+    add-result-6
+    add-result-7
+    returns-7)
