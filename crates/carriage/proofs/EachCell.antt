@@ -1,21 +1,22 @@
 -- One computed test over the table: 83 cells a type, each of 2,988 cells once; and the code finds the type of each.
 -- Assumes nothing.
 use mathlib.Core.Path.{_≡_, refl, sym, ap, subst, _∙_}
-use mathlib.Core.Bool.{Bool, true, false, cond}
+use mathlib.Core.Bool.{Bool, true, false, cond, false≢true}
+use mathlib.Core.List.{[]}
 use Prim.Native.Nat.{ℕ, _+_, _*_, _-_, _%_, _/_, _<_, _≤_}
 use native.Mathlib.Omega.{arith}
 use lib.Dec.{T, eqb, ltb, eqb→eq, ltb→lt}
 use lib.ListN.{length}
 use borrow.Author.Tests.{eq-eqb, ne-eqb, lt-ltb, le-ltb, ltb-true, ltb-false}
 use Rattle.tables.proofs.Upto.{both, both-left, both-right, upto, upto-at}
-use Rattle.carriage.specs.Carriage.{samplesIn, types, scienceSize, cells, threeD, rows, runs, runsIn, total, someHas, byteIn, place, carrier, byteOf, Once}
+use Rattle.carriage.specs.Carriage.{samplesIn, types, scienceSize, cells, threeD, rows, total, someHas, byteIn, place, carrier, byteOf, Once, rowOf, runsOf, carries, none}
 use Rattle.carriage.specs.Steps.{restSize, restCell}
 use Rattle.carriage.proofs.Placed.{place-had, had-place, first-is, first-none}
 use Rattle.carriage.proofs.Finding.{sampleIn, inHalf, restType, typeOf, in-header, in-samples, in-three}
 
 -- the science byte of a type that goes to cell p
 abbrev byteFor : ℕ → ℕ → ℕ
-byteFor t p = byteIn (runsIn runs t) p
+byteFor t p = byteIn (runsOf (rowOf t)) p
 
 -- byte k of type t goes to one of the cells, and that cell is asked back to type t and byte k
 there : ℕ → ℕ → Bool
@@ -27,20 +28,20 @@ back p = both (ltb (typeOf p) types) (both (ltb (byteFor (typeOf p) p) scienceSi
 
 -- a row: 83 bytes, all there, and the 83 cells from 83 t on are all back
 right : ℕ → Bool
-right t = both (eqb (total (runsIn runs t)) scienceSize) (upto (λ k. both (there t k) (back (t * scienceSize + k))) scienceSize)
+right t = both (eqb (total (runsOf (rowOf t))) scienceSize) (upto (λ k. both (there t k) (back (t * scienceSize + k))) scienceSize)
 
 all-right : (t : ℕ) → t < types → T (right t)
-unfolding both right there back place typeOf restType samplesIn rows runs
+unfolding both right there back place typeOf restType samplesIn rows
 all-right = upto-at right types tt
 
 -- 83 cells a type
-pub total-83 : (t : ℕ) → t < types → total (runsIn runs t) ≡ scienceSize
+pub total-83 : (t : ℕ) → t < types → total (runsOf (rowOf t)) ≡ scienceSize
 unfolding right
-total-83 t h = eqb→eq _ _ (both-left (eqb (total (runsIn runs t)) scienceSize) _ (all-right t h))
+total-83 t h = eqb→eq _ _ (both-left (eqb (total (runsOf (rowOf t))) scienceSize) _ (all-right t h))
 
 at : (t k : ℕ) → t < types → k < scienceSize → T (both (there t k) (back (t * scienceSize + k)))
 unfolding right
-at t k h l = upto-at (λ k. both (there t k) (back (t * scienceSize + k))) scienceSize (both-right (eqb (total (runsIn runs t)) scienceSize) _ (all-right t h)) k l
+at t k h l = upto-at (λ k. both (there t k) (back (t * scienceSize + k))) scienceSize (both-right (eqb (total (runsOf (rowOf t))) scienceSize) _ (all-right t h)) k l
 
 record There (t k : ℕ) : Type 0 where
   cell : place t k < cells
@@ -75,27 +76,27 @@ is-back p h =
       is = eqb→eq _ _ (both-right (ltb (byteFor (typeOf p) p) scienceSize) _ b);
     }
 
-length-runs : length runs ≡ types
-unfolding runs rows
-length-runs = refl
+length-rows : length rows ≡ types
+unfolding rows
+length-rows = refl
 
 -- a type that has cell p is the one that the code finds
 record Had (t p : ℕ) : Type 0 where
   cell : p < cells
   type : typeOf p ≡ t
 
-had : (t p : ℕ) → t < types → someHas (runsIn runs t) p ≡ true → Had t p
+had : (t p : ℕ) → t < types → someHas (runsOf (rowOf t)) p ≡ true → Had t p
 unfolding place
 had t p h e =
-    let b = had-place (runsIn runs t) p e in
+    let b = had-place (runsOf (rowOf t)) p e in
     let n = total-83 t h in
     let i = is-there t (byteFor t p) h (omega (arith, b .0)) in
     record { cell = subst (λ (q : ℕ). q < cells) (b .1) (i .cell); type = subst (λ (q : ℕ). typeOf q ≡ t) (b .1) (i .type) }
 
-not-had : (t p : ℕ) → t < types → (Had t p → ⊥) → someHas (runsIn runs t) p ≡ false
-not-had t p h n = go (someHas (runsIn runs t) p) refl
+not-had : (t p : ℕ) → t < types → (Had t p → ⊥) → someHas (runsOf (rowOf t)) p ≡ false
+not-had t p h n = go (someHas (runsOf (rowOf t)) p) refl
   where
-    go : (b : Bool) → someHas (runsIn runs t) p ≡ b → b ≡ false
+    go : (b : Bool) → someHas (runsOf (rowOf t)) p ≡ b → b ≡ false
     go true e = absurd (n (had t p h e))
     go false e = refl
 
@@ -105,13 +106,13 @@ unfolding carrier place
 carrier-is p h =
     let b = is-back p h in
     let n = total-83 (typeOf p) (b .type) in
-    let e : someHas (runsIn runs (typeOf p)) p ≡ true = subst (λ (q : ℕ). someHas (runsIn runs (typeOf p)) q ≡ true) (b .is) (place-had (runsIn runs (typeOf p)) (byteFor (typeOf p) p) (omega (arith, b .byte))) in
-    first-is runs p (typeOf p) (omega (arith, b .type, length-runs)) e (λ u l. not-had u p (omega (arith, b .type)) (λ k. omega (arith, k .type)))
+    let e : someHas (runsOf (rowOf (typeOf p))) p ≡ true = subst (λ (q : ℕ). someHas (runsOf (rowOf (typeOf p))) q ≡ true) (b .is) (place-had (runsOf (rowOf (typeOf p))) (byteFor (typeOf p) p) (omega (arith, b .byte))) in
+    first-is (carries types [] none none) rows p (typeOf p) (omega (arith, b .type, length-rows)) e (λ u l. not-had u p (omega (arith, b .type)) (λ k. omega (arith, k .type)))
 
 -- past the cells there is none
 pub carrier-none : (p : ℕ) → cells ≤ p → carrier p ≡ types
 unfolding carrier
-carrier-none p h = first-none runs p (λ u l. not-had u p (omega (arith, length-runs)) (λ k. omega (arith, k .cell))) ∙ length-runs
+carrier-none p h = first-none (carries types [] none none) rows p (λ u l. not-had u p (omega (arith, length-rows)) (λ k. omega (arith, k .cell))) ∙ length-rows
 
 module _ (t k : ℕ) (h : t < types) (l : k < scienceSize) where
   pub place-cell : place t k < cells
@@ -177,21 +178,21 @@ carrier-small p = go (ltb p cells) refl
     go false e = omega (arith, carrier-none p (ltb-false p cells e))
 
 -- the runs of a type have exactly the cells that it carries
-carried-had : (t p : ℕ) → t < types → carrier p ≡ t → someHas (runsIn runs t) p ≡ true
+carried-had : (t p : ℕ) → t < types → carrier p ≡ t → someHas (runsOf (rowOf t)) p ≡ true
 unfolding place
 carried-had t p h e = go (ltb p cells) refl
   where
-    go : (b : Bool) → ltb p cells ≡ b → someHas (runsIn runs t) p ≡ true
+    go : (b : Bool) → ltb p cells ≡ b → someHas (runsOf (rowOf t)) p ≡ true
     go true l =
         let o = once p (ltb-true p cells l) in
         let n = total-83 t h in
-        subst (λ (q : ℕ). someHas (runsIn runs t) q ≡ true) (ap (λ (u : ℕ). place u (byteOf p)) (sym e) ∙ o .is)
-        (place-had (runsIn runs t) (byteOf p) (omega (arith, o .is-byte)))
+        subst (λ (q : ℕ). someHas (runsOf (rowOf t)) q ≡ true) (ap (λ (u : ℕ). place u (byteOf p)) (sym e) ∙ o .is)
+        (place-had (runsOf (rowOf t)) (byteOf p) (omega (arith, o .is-byte)))
     go false l = let n = carrier-none p (ltb-false p cells l) in absurd (omega arith)
 
-pub had-is : (t p : ℕ) → t < types → someHas (runsIn runs t) p ≡ eqb (carrier p) t
-had-is t p h = go (someHas (runsIn runs t) p) refl
+pub had-is : (t p : ℕ) → t < types → someHas (runsOf (rowOf t)) p ≡ eqb (carrier p) t
+had-is t p h = go (someHas (runsOf (rowOf t)) p) refl
   where
-    go : (b : Bool) → someHas (runsIn runs t) p ≡ b → b ≡ eqb (carrier p) t
+    go : (b : Bool) → someHas (runsOf (rowOf t)) p ≡ b → b ≡ eqb (carrier p) t
     go true x = let k = had t p h x in sym (eq-eqb (carrier p) t (carrier-is p (k .cell) ∙ k .type))
-    go false x = sym (ne-eqb (carrier p) t (λ e. let y = carried-had t p h e in let n : _≡_ {A = ℕ} 0 1 = cc in absurd (omega arith)))
+    go false x = sym (ne-eqb (carrier p) t (λ e. false≢true (sym x ∙ carried-had t p h e)))

@@ -1,7 +1,7 @@
 -- What the code's steps lead to: the scale of a bin, and the answer from a raw cell.
 -- Assumes nothing.
 use mathlib.Core.Path.{_≡_, refl, subst, subst⁻¹, _∙_}
-use mathlib.Core.Bool.{Bool, true, false, cond, not, _&&_, _||_}
+use mathlib.Core.Bool.{Bool, true, false, cond, not, _&&_, _||_, and-true}
 use mathlib.Core.List.{List}
 use Prim.Native.Nat.{ℕ, _/_, _<_}
 use native.Mathlib.Omega.{arith}
@@ -61,10 +61,6 @@ nowhere : (x y k : Bool) (r : Range) (w : Raw) (s : Scale) → CountIs (record {
 unfolding countSaid rangeGiven
 nowhere true y k r w s = record { is = refl; says = refl; range = refl }
 nowhere false y k r w s = record { is = refl; says = refl; range = refl }
-
-and-true : (x : Bool) → (x && true) ≡ x
-and-true true = refl
-and-true false = refl
 
 module _ (c : List ℕ) (held : ℕ) where
   sample-is : (b s a : ℕ) → CountIs (sampleAsked c held b s a) (meaning (cellOf c held (samplePlace b s a)) (scaleOf c held b))
