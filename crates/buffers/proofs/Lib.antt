@@ -1,3 +1,4 @@
 pub mod Copies
 pub mod Patches
 pub mod Blocks
+pub mod Fills

@@ -1,9 +1,14 @@
-// Buffers: one copied into another of its size, one laid into another from a place on.
+// Buffers: one copied into another of its size, one laid into another from a place on, one cleared.
+mod numbers;
+
 ghost use mathlib.Core.Path.{_≡_};
 ghost use Prim.Native.Nat.{_+_, _≤_};
 ghost use lib.ListN.{length, take, drop};
 ghost use Rattle.buffers.specs.Copying.{copied};
 ghost use Rattle.buffers.specs.Laying.{patch, laid};
+ghost use Rattle.buffers.specs.Clearing.{cleared};
+pub use numbers::clear_numbers;
+pub use numbers::copy_numbers;
 
 // A copy goes in blocks. A block is read whole before it is put: so it is one load and one store, though two slices could overlap
 // for all that the compiler knows.
@@ -62,4 +67,15 @@ pub fn lay(from: &[u8], to: &mut [u8], at: usize)
         return;
     }
     copy(from, &mut to[at..at + from.len()]);
+}
+
+// Every byte becomes 0.
+pub fn clear(buffer: &mut [u8])
+    ensures { λ _. ⌜ now (buffer .exit) ≡ cleared 0 (now (buffer .entry)) ⌝ }
+{
+    let mut i = 0;
+    while i < buffer.len() {
+        buffer[i] = 0;
+        i += 1;
+    }
 }

@@ -10,7 +10,8 @@ use lib.ListN.{length, length-take, length-drop}
 use borrow.Author.Tests.{eqb-true, eq-eqb, ne-eqb, le-leb}
 use Rattle.bits.specs.Numbers.{wordIn}
 use Rattle.record.specs.Layout.{size, packetSize, packetAt, packetBytes, bytesAt}
-use Rattle.record.specs.Rules.{rules, firstBroken, broken, sizeHolds, verdictOf}
+use Rattle.tables.specs.Rules.{firstBroken}
+use Rattle.record.specs.Rules.{rules, broken, sizeHolds, verdictOf}
 use Rattle.record.specs.Contents.{recordOf, contentsOf, contentsNumber, ContentsIs, packetOf, PacketIs}
 use Rattle.record.specs.declared.Record.{Record}
 use Rattle.record.specs.declared.rules.Verdict.{Verdict}

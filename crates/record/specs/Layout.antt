@@ -96,3 +96,10 @@ subcom p = bytesAt p 1 2
 -- "The 6 LSB of the Frame Code are the Frame Type" (000, section 2.1)
 abbrev pub frameType : List ℕ → ℕ
 frameType p = frameCode p % 64
+
+-- then the 82 MAG bytes and the 83 ER bytes (01, "The packet")
+abbrev pub magBytes : List ℕ → List ℕ
+magBytes p = take 82 (drop 3 p)
+
+abbrev pub scienceBytes : List ℕ → List ℕ
+scienceBytes p = take 83 (drop 85 p)

@@ -7,6 +7,7 @@ use mathlib.Core.List.{List, [], _∷_}
 use mathlib.Core.Path.{_≡_}
 use lib.Dec.{eqb, leb}
 use lib.ListN.{length}
+use Rattle.tables.specs.Rules.{Rule, rule, firstBroken, holdsIn}
 use Rattle.record.specs.Layout.{size, sync, version, spacecraft, rate, spare, packetBytes, day, millisecond, statusSpare, firstFlag, secondFlag, thirdFlag, frameType}
 use Rattle.record.specs.declared.rules.Verdict.{Verdict}
 use Rattle.record.specs.declared.rules.Verdict.the-variants.{Passes, Refused}
@@ -56,16 +57,8 @@ flagsHold r = flagHolds (firstFlag r) && (flagHolds (secondFlag r) && flagHolds 
 unfoldable pub typeHolds : List ℕ → Bool
 typeHolds r = not (leb 58 (frameType (packetBytes r)) && leb (frameType (packetBytes r)) 61)
 
--- a rule's number, and its test of a record
-pub record Rule : Type 0 where
-  pub number : ℕ
-  pub holds : List ℕ → Bool
-
-abbrev rule : ℕ → (List ℕ → Bool) → Rule
-rule n t = record { number = n; holds = t }
-
 -- in 01's order
-unfoldable pub rules : List Rule
+unfoldable pub rules : List (Rule (List ℕ))
 rules =
     rule 2 sizeHolds
     ∷ rule 3 syncHolds
@@ -79,20 +72,11 @@ rules =
     ∷ rule 11 typeHolds
     ∷ []
 
--- the number of the first rule that fails, or 0
-unfoldable pub firstBroken : List Rule → List ℕ → ℕ
-firstBroken [] r = 0
-firstBroken (x ∷ xs) r = cond (x .holds r) (firstBroken xs r) (x .number)
-
 -- 01's number of a record that fails one of rules 2 to 11, or 0
 unfoldable pub broken : List ℕ → ℕ
 broken r = firstBroken rules r
 
--- whether the rule of number n holds; a number that no rule has can't fail
-unfoldable pub holdsIn : List Rule → ℕ → List ℕ → Bool
-holdsIn [] n r = true
-holdsIn (x ∷ xs) n r = cond (eqb (x .number) n) (x .holds r) (holdsIn xs n r)
-
+-- whether the rule of number n holds
 abbrev pub ruleHolds : ℕ → List ℕ → Bool
 ruleHolds n r = holdsIn rules n r
 

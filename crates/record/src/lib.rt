@@ -71,8 +71,12 @@ impl Record {
 
     pub const STATUS_AT: usize = 470;
 
-    // In the packet (000, section 2): the Frame Code, then the Digital Subcom word.
+    // In the packet (000, section 2): the Frame Code, the Digital Subcom word, the MAG bytes, the ER bytes.
     pub const CODE_AT: usize = 0;
 
     pub const SUBCOM_AT: usize = 1;
+
+    pub const MAG_AT: usize = 3;
+
+    pub const SCIENCE_AT: usize = 85;
 }

@@ -2,3 +2,4 @@ pub mod Upto
 pub mod Built
 pub mod Conds
 pub mod Single
+pub mod Order

@@ -1,0 +1,66 @@
+-- `buffers::clear_numbers` meets its contract, as `clear` does.
+-- Assumes nothing.
+use Prim.Native.Nat.{_≤_, _-_}
+use mathlib.Core.Path.{_≡_, ap, _∙_}
+use mathlib.Core.List.{List, _++_}
+use lib.IntN.{ℤ, pos}
+use lib.ListN.{length, set, drop, replicate}
+use denote.Ref.{now}
+use Rattle.buffers.proofs.Fills.{fill-more, fill-all}
+use native.Mathlib.Omega.{arith}
+use borrow.Author.Needs.{needs}
+use Rattle.buffers.proofs.numbers.clear_numbers.Statement.{statement}
+use Rattle.buffers.proofs.numbers.clear_numbers.Tie as tie
+
+abbrev Inv-loop : tie.InvT-loop
+Inv-loop buffer₀ i₀ buffer i = (i ≤ length buffer₀) × (buffer ≡ replicate i (pos 0) ++ drop i buffer₀) × (length buffer ≡ length buffer₀)
+
+abbrev μ-loop : tie.MeasureT-loop
+μ-loop buffer₀ i₀ buffer i = length buffer₀ - i
+
+loop-holds : tie.Need-loop-holds Inv-loop μ-loop
+loop-holds c = search needs
+
+mul-buffer : tie.Need-mul-buffer Inv-loop μ-loop
+mul-buffer c = search needs
+
+slice-set-of-buffer : tie.Need-slice-set-of-buffer Inv-loop μ-loop
+slice-set-of-buffer c = search needs
+
+add-i : tie.Need-add-i Inv-loop μ-loop
+add-i c = search needs
+
+loop-less : tie.Need-loop-less Inv-loop μ-loop
+loop-less c = search needs
+
+loop-again : tie.Need-loop-again Inv-loop μ-loop
+loop-again c =
+    let l = c .before in
+    let a₀ = now (l .before .args .buffer) in (
+      search needs,
+      ap (λ (a : List ℤ). set a (l .loop .i) (pos 0)) (l .loop .inv .1) ∙ fill-more (pos 0) (l .loop .i) a₀ (omega arith),
+      search needs,
+    )
+
+same-length : tie.Need-same-length Inv-loop μ-loop
+same-length c = search needs
+
+returns : tie.Need-returns Inv-loop μ-loop
+returns c =
+    let l = c .before in
+    l .loop .inv .1 ∙ fill-all (pos 0) (l .loop .i) (now (l .before .args .buffer)) (omega arith)
+
+pub clear-numbers-spec : {M : Type 1} → statement M
+clear-numbers-spec =
+    tie.close
+    (tie.spec
+    Inv-loop
+    μ-loop
+    loop-holds
+    mul-buffer
+    slice-set-of-buffer
+    add-i
+    loop-less
+    loop-again
+    same-length
+    returns)
