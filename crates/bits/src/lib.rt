@@ -11,6 +11,7 @@ pub use twelve::twelve_most;
 pub use words::word16;
 pub use words::word24;
 pub use words::word32;
+pub use words::word64;
 
 // A byte as a wider number.
 fn wide(x: u8) -> u32

@@ -1,21 +1,18 @@
 -- What may be said of a cell (01, "Counts" and the last paragraph of "The packet"): "no such place", which is tested before "absent".
 -- Assumes nothing.
-use Prim.Native.Nat.{ℕ, _/_, _%_, _^_}
+use Prim.Native.Nat.{ℕ, _^_}
 use mathlib.Core.Bool.{Bool, true, cond, _&&_}
 use mathlib.Core.List.{List}
 use mathlib.Core.Option.{Option, none, some}
 use mathlib.Core.Path.{_≡_}
 use lib.Dec.{eqb, ltb}
 use lib.ListN.{length, getD}
+use Rattle.tables.specs.Marks.{bitSet}
 use Rattle.carriage.specs.Carriage.{types, cells, carrier}
 use Rattle.cells.specs.Words.{Words, noSuchPlace, absent, given, said}
 use Rattle.cells.specs.Laying.{cellsSize}
 use Rattle.cells.specs.declared.raw.Raw.{Raw}
 use Rattle.cells.specs.declared.raw.Raw.the-variants.{Byte, Absent, NoSuchPlace}
-
--- bit k of a number, of weight 2^k
-abbrev pub bitSet : ℕ → ℕ → Bool
-bitSet n k = eqb (n / 2 ^ k % 2) 1
 
 -- the frame that carries cell p is held when the mark of its type is set
 abbrev pub holdsCell : ℕ → ℕ → Bool

@@ -12,7 +12,8 @@ use Rattle.counts.specs.declared.Range.{Range}
 use Rattle.counts.specs.declared.codes.Divided.{Divided}
 use Rattle.counts.specs.declared.codes.Divided.the-variants.{By1, By8, By16}
 use Rattle.carriage.specs.Carriage.{cells, sampleCell, threeCell}
-use Rattle.cells.specs.Raw.{bitSet, holdsCell, askable, cellOf}
+use Rattle.tables.specs.Marks.{bitSet}
+use Rattle.cells.specs.Raw.{holdsCell, askable, cellOf}
 use Rattle.cells.specs.declared.raw.Raw.{Raw}
 use Rattle.cells.specs.declared.raw.Raw.the-variants as raw
 use Rattle.electrons.specs.Questions.{countSaid, rangeGiven, CountIs, hasSample, scalable, dividedBy, scaleKnown, sampleAsked, hasThree, threeAsked, headerAsked}

@@ -8,7 +8,8 @@ use native.Mathlib.Omega.{arith}
 use lib.Dec.{T, leb}
 use lib.ListN.{length, length-take, length-drop}
 use borrow.Author.Tests.{eq-eqb, ne-eqb}
-use Rattle.tables.proofs.Upto.{both, both-left, both-right, upto, upto-at}
+use Rattle.tables.specs.Upto.{both, upto}
+use Rattle.tables.proofs.Upto.{both-left, both-right, upto-at}
 use Rattle.record.specs.Layout.{size, packetSize, packetBytes, frameType}
 use Rattle.record.specs.Frame.{kindOfType, kindOf, typesOf, KindIs}
 use Rattle.record.specs.Rules.{typeHolds}

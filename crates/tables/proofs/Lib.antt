@@ -3,3 +3,4 @@ pub mod Built
 pub mod Conds
 pub mod Single
 pub mod Order
+pub mod Marks

@@ -2,13 +2,13 @@
 -- Assumes nothing.
 use mathlib.Core.Path.{_≡_, refl, sym, _∙_}
 use mathlib.Core.Bool.{Bool, true, false, cond, true≢false}
-use mathlib.Core.List.{List, [], _∷_}
+use mathlib.Core.List.{List, [], _∷_, _++_}
 use mathlib.Core.Logic.{_⊎_, inl, inr}
 use Prim.Native.Nat.{ℕ, suc, _<_}
 use native.Mathlib.Omega.{arith}
 use lib.Dec.{eqb, ltb}
 use borrow.Author.Tests.{eq-eqb, ne-eqb, ltb-true, ltb-false}
-use Rattle.tables.specs.Rules.{Rule, firstBroken, holdsIn, FirstBroken}
+use Rattle.tables.specs.Rules.{Rule, ofPart, firstBroken, holdsIn, FirstBroken}
 
 -- true and false are two
 pub never : {t : Bool} → t ≡ true → t ≡ false → ⊥
@@ -95,3 +95,17 @@ module _ {A : Type 0} where
 
       pub first-broken : (s : ℕ) → 0 < s → Rising s xs → FirstBroken xs r (firstBroken xs r)
       first-broken s h up = told (firstBroken xs r) (found xs s h up)
+
+-- the rules of a part, then others: the first that fails is one of the part's, or else one of those
+pub parts-then : {A B : Type 0} (part : B → A) (xs : List (Rule A)) (ys : List (Rule B)) (b : B) (s : ℕ) → 0 < s → Rising s xs
+    → firstBroken (ofPart part xs ++ ys) b ≡ cond (eqb (firstBroken xs (part b)) 0) (firstBroken ys b) (firstBroken xs (part b))
+unfolding firstBroken ofPart
+parts-then part [] ys b s h up = refl
+parts-then part (x ∷ xs) ys b s h up = go (x .holds (part b)) (parts-then part xs ys b (suc s) (omega arith) (up .1))
+  where
+    go : (t : Bool)
+        → firstBroken (ofPart part xs ++ ys) b ≡ cond (eqb (firstBroken xs (part b)) 0) (firstBroken ys b) (firstBroken xs (part b))
+        → cond t (firstBroken (ofPart part xs ++ ys) b) (x .number)
+        ≡ cond (eqb (cond t (firstBroken xs (part b)) (x .number)) 0) (firstBroken ys b) (cond t (firstBroken xs (part b)) (x .number))
+    go true e = e
+    go false e = rw (ne-eqb (x .number) 0 (λ z. omega (arith, up .0)))

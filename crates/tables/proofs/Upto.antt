@@ -1,16 +1,13 @@
 -- A rule at every number below n, proved by one test that is computed.
 -- Assumes nothing.
-use mathlib.Core.Path.{_≡_, subst}
+use mathlib.Core.Path.{_≡_, refl, sym, subst, _∙_}
 use mathlib.Core.Bool.{Bool, true, false}
 use Prim.Native.Nat.{ℕ, zero, suc, _<_}
 use native.Mathlib.Omega.{arith}
 use native.Mathlib.Nat.{not-suc-le-zero}
 use native.Mathlib.Decide.{decLt}
 use lib.Dec.{T}
-
-unfoldable pub both : Bool → Bool → Bool
-both true b = b
-both false b = false
+use Rattle.tables.specs.Upto.{both, upto}
 
 pub both-left : (a b : Bool) → T (both a b) → T a
 unfolding both
@@ -22,11 +19,6 @@ unfolding both
 both-right true b t = t
 both-right false b t = absurd t
 
--- the test f passes at each number below n
-abbrev pub upto : (ℕ → Bool) → ℕ → Bool
-upto f zero = true
-upto f (suc n) = both (f n) (upto f n)
-
 step : (f : ℕ → Bool) (n k : ℕ) → k < suc n → T (f n) → (k < n → T (f k)) → Dec (k < n) → T (f k)
 step f n k h t r (yes l) = r l
 step f n k h t r (no l) = let e : n ≡ k = omega arith in subst (λ (m : ℕ). T (f m)) e t
@@ -34,3 +26,24 @@ step f n k h t r (no l) = let e : n ≡ k = omega arith in subst (λ (m : ℕ). 
 pub upto-at : (f : ℕ → Bool) (n : ℕ) → T (upto f n) → (k : ℕ) → k < n → T (f k)
 upto-at f zero t k h = absurd (not-suc-le-zero h)
 upto-at f (suc n) t k h = step f n k h (both-left (f n) (upto f n) t) (λ l. upto-at f n (both-right (f n) (upto f n) t) k l) (decLt k n)
+
+-- a test that passes at each number below n
+pub upto-all : (f : ℕ → Bool) (n : ℕ) → ((k : ℕ) → k < n → f k ≡ true) → upto f n ≡ true
+unfolding both
+upto-all f zero h = refl
+upto-all f (suc n) h = rw (h n (omega arith), upto-all f n (λ k l. h k (omega arith)))
+
+pub upto-true : (f : ℕ → Bool) (n : ℕ) → upto f n ≡ true → (k : ℕ) → k < n → f k ≡ true
+upto-true f n e k h = is-true (f k) (upto-at f n (subst T (sym e) tt) k h)
+  where
+    is-true : (b : Bool) → T b → b ≡ true
+    is-true true t = refl
+    is-true false t = absurd t
+
+-- a test that fails at one
+pub upto-false : (f : ℕ → Bool) (n k : ℕ) → k < n → f k ≡ false → upto f n ≡ false
+upto-false f n k h e = go (upto f n) refl
+  where
+    go : (t : Bool) → upto f n ≡ t → t ≡ false
+    go true t = sym (upto-true f n t k h) ∙ e
+    go false t = refl

@@ -15,6 +15,11 @@ pub record Rule (A : Type 0) : Type 0 where
 abbrev pub rule : {A : Type 0} → ℕ → (A → Bool) → Rule A
 rule n t = record { number = n; holds = t }
 
+-- rules of a part of something, as rules of the whole
+unfoldable pub ofPart : {A B : Type 0} → (B → A) → List (Rule A) → List (Rule B)
+ofPart part [] = []
+ofPart part (x ∷ xs) = rule (x .number) (λ b. x .holds (part b)) ∷ ofPart part xs
+
 -- the number of the first rule that fails, or 0
 unfoldable pub firstBroken : {A : Type 0} → List (Rule A) → A → ℕ
 firstBroken [] a = 0

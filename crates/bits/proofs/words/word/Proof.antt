@@ -32,7 +32,7 @@ mul-x : tie.Need-mul-x Inv-loop μ-loop
 mul-x c =
     let l = c .before in
     let a = l .before .before .before .before .args in
-    let h : first (now (a .b)) (a .at) (l .loop .i) < 16777216 = small (now (a .b)) (a .at) (l .loop .i) 3 (omega arith) in
+    let h : first (now (a .b)) (a .at) (l .loop .i) < 72057594037927936 = small (now (a .b)) (a .at) (l .loop .i) 7 (omega arith) in
     omega (arith, l .loop .inv .1)
 
 add-wide : tie.Need-add-wide Inv-loop μ-loop
@@ -44,11 +44,14 @@ shared-slice-read-wide c = search needs
 wide-requires : tie.Need-wide-requires Inv-loop μ-loop
 wide-requires c κs = search needs
 
+cast-x : tie.Need-cast-x Inv-loop μ-loop
+cast-x c = search needs
+
 add-x : tie.Need-add-x Inv-loop μ-loop
 add-x c =
     let l = c .before .before .before in
     let a = l .before .before .before .before .args in
-    let h : first (now (a .b)) (a .at) (l .loop .i) < 16777216 = small (now (a .b)) (a .at) (l .loop .i) 3 (omega arith) in
+    let h : first (now (a .b)) (a .at) (l .loop .i) < 72057594037927936 = small (now (a .b)) (a .at) (l .loop .i) 7 (omega arith) in
     omega (arith, l .loop .inv .1)
 
 add-i : tie.Need-add-i Inv-loop μ-loop
@@ -90,6 +93,7 @@ word-spec =
     add-wide
     shared-slice-read-wide
     wide-requires
+    cast-x
     add-x
     add-i
     loop-less

@@ -1,0 +1,121 @@
+-- The clauses of the state list as the code tests them.
+-- Assumes nothing.
+use mathlib.Core.Path.{_≡_, refl, sym, _∙_}
+use mathlib.Core.Bool.{Bool, true, false, not, _&&_, _||_, and-false}
+use Prim.Native.Nat.{ℕ, suc, _+_, _-_, _/_, _^_, _<_, _≤_}
+use native.Mathlib.Nat.{div-eq-of-lt, lt-of-lt-of-le}
+use native.Mathlib.Numerals.{add-one}
+use native.Mathlib.Omega.{arith}
+use lib.Arith.{lt-of-le-ne}
+use lib.Count.{ones}
+use lib.Dec.{eqb, leb}
+use lib.ListN.{getD}
+use lib.Pow.{pow-mono}
+use borrow.Author.Tests.{eq-eqb, ne-eqb, le-leb, lt-leb, lt-ltb, leb-true, leb-false}
+use Rattle.tables.specs.Marks.{bitSet, highest}
+use Rattle.tables.specs.Upto.{both, upto}
+use Rattle.state.specs.List.{framesAmong, framesFit, othersFit, slotHolds, begun}
+use Rattle.state.specs.declared.State.{State}
+use Rattle.state.specs.declared.accumulation.Accumulation.{Accumulation}
+use Rattle.state.specs.declared.clock.Clock.{Clock}
+use Rattle.state.specs.declared.major.Major.{Major}
+
+-- marks below 2^n have no highest from n on
+pub none-above : (n t held : ℕ) → held < 2 ^ n → n ≤ t → highest held t ≡ false
+unfolding highest
+none-above n t held h l = let e : held / 2 ^ t ≡ 0 = div-eq-of-lt (lt-of-lt-of-le h (pow-mono l)) in rw e
+
+pub type-above : (a : Accumulation) → a .held < 2 ^ 36 → (a .held ≡ 0 → ⊥) → 35 < a .«last_type» → false ≡ framesAmong a
+unfolding framesAmong
+type-above a h z l = rw (lt-ltb (a .held) (2 ^ 36) h, ne-eqb (a .held) 0 z, none-above 36 (a .«last_type») (a .held) h (omega arith))
+
+-- no frame, at count 0
+pub none-fit : (a : Accumulation) → a .first + ones (a .held) ≡ 0 → true ≡ framesFit a
+unfolding framesFit
+none-fit a e = sym (le-leb (a .first + ones (a .held) - 1) (a .«last_count») (omega arith))
+
+-- a sum that is compared without being made
+leb-less : (x y l : ℕ) → y ≤ l → leb x (l - y) ≡ leb (y + x) l
+leb-less x y l h = go (leb x (l - y)) refl
+  where
+    go : (t : Bool) → leb x (l - y) ≡ t → t ≡ leb (y + x) l
+    go true e = let p = leb-true x (l - y) e in sym (le-leb (y + x) l (omega arith))
+    go false e = let p = leb-false x (l - y) e in sym (lt-leb (y + x) l (omega arith))
+
+pub others-above : (c : Clock) (a : Accumulation) → c .last < a .«last_count» → false ≡ othersFit c a
+unfolding othersFit
+others-above c a h = rw (lt-leb (a .«last_count» + a .others) (c .last) (omega arith))
+
+pub others-within : (c : Clock) (a : Accumulation) → a .«last_count» ≤ c .last → leb (a .others) (c .last - a .«last_count») ≡ othersFit c a
+unfolding othersFit
+others-within c a h = leb-less (a .others) (a .«last_count») (c .last) h
+
+-- the four tests of a slot, from its marks, its range and its word
+module _ (m : Major) (i : ℕ) where
+  abbrev range : ℕ
+  range = getD (m .ranges) i 0
+
+  pub range-above : 7 < range → false ≡ slotHolds m i
+  unfolding slotHolds
+  range-above h = rw (lt-leb range 7 h) (sym (and-false (not (bitSet (m .«mag_slots») i) || bitSet (m .slots) i)))
+
+  pub mag-held : range ≤ 7 → bitSet (m .«mag_slots») i ≡ true → bitSet (m .slots) i ≡ slotHolds m i
+  unfolding slotHolds
+  mag-held h e = rw (le-leb range 7 h, e) (go (bitSet (m .slots) i) (eqb (getD (m .words) i 0) 0))
+    where
+      go : (b w : Bool) → b ≡ (b && (b || w))
+      go true w = refl
+      go false w = refl
+
+  pub range-left : range ≤ 7 → bitSet (m .«mag_slots») i ≡ false → (range ≡ 0 → ⊥) → false ≡ slotHolds m i
+  unfolding slotHolds
+  range-left h e z = rw (le-leb range 7 h, e, ne-eqb range 0 z)
+
+  pub slot-held : range ≤ 7 → bitSet (m .«mag_slots») i ≡ false → range ≡ 0 → bitSet (m .slots) i ≡ true → true ≡ slotHolds m i
+  unfolding slotHolds
+  slot-held h e z b = rw (le-leb range 7 h, e, eq-eqb range 0 z, b)
+
+  pub slot-free : range ≤ 7 → bitSet (m .«mag_slots») i ≡ false → range ≡ 0 → bitSet (m .slots) i ≡ false → eqb (getD (m .words) i 0) 0 ≡ slotHolds m i
+  unfolding slotHolds
+  slot-free h e z b = rw (le-leb range 7 h, e, eq-eqb range 0 z, b)
+
+-- until something is accepted
+module _ (s : State) (any : s .clock .any ≡ false) where
+  pub last-left : (s .clock .last ≡ 0 → ⊥) → false ≡ begun s
+  unfolding begun
+  last-left h = rw (any, ne-eqb (s .clock .last) 0 h)
+
+  pub frames-left : s .clock .last ≡ 0 → (s .accumulation .held ≡ 0 → ⊥) → false ≡ begun s
+  unfolding begun
+  frames-left e h = rw (any, eq-eqb (s .clock .last) 0 e, ne-eqb (s .accumulation .held) 0 h)
+
+  pub slots-left : s .clock .last ≡ 0 → s .accumulation .held ≡ 0 → eqb (s .major .slots) 0 ≡ begun s
+  unfolding begun
+  slots-left e h = rw (any, eq-eqb (s .clock .last) 0 e, eq-eqb (s .accumulation .held) 0 h)
+
+-- a test that is turned round
+pub not-true : (b : Bool) → not b ≡ true → b ≡ false
+not-true true e = sym e
+not-true false e = refl
+
+pub not-false : (b : Bool) → not b ≡ false → b ≡ true
+not-false true e = refl
+not-false false e = sym e
+
+-- a turn of the loop over the slots, and its end
+pub one-more : (f : ℕ → Bool) (i : ℕ) → f i ≡ true → upto f i ≡ true → upto f (i + 1) ≡ true
+unfolding both
+one-more f i e h = rw (add-one i, e) h
+
+pub sixteen : (f : ℕ → Bool) (i : ℕ) → i ≡ 16 → upto f i ≡ true → true ≡ upto f 16
+sixteen f i e h = sym (rw e at h)
+
+-- a callee's test, turned round
+pub held : {b t : Bool} → b ≡ t → not b ≡ false → t ≡ true
+held {b} e h = sym e ∙ not-false b h
+
+pub fails : {b t : Bool} → b ≡ t → not b ≡ true → t ≡ false
+fails {b} e h = sym e ∙ not-true b h
+
+pub above-0 : {n : ℕ} → (n ≡ 0 → ⊥) → 0 < n
+above-0 {n} h = lt-of-le-ne (omega arith) (λ e. h (sym e))

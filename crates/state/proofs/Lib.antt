@@ -1,0 +1,6 @@
+pub mod Clauses
+pub mod Joining
+pub mod Parts
+pub mod Numbers
+pub mod Facts
+pub mod Ends

@@ -1,0 +1,24 @@
+-- `state::clock::arrival_of` meets its contract.
+-- Assumes nothing.
+use borrow.Author.Tests.{eq-eqb, ne-eqb, le-leb, lt-leb, lt-ltb, le-ltb}
+use mathlib.Core.Bool.{true, false}
+use Rattle.state.specs.Clock.{arrivalOf, later}
+use native.Mathlib.Omega.{arith}
+use borrow.Author.Needs.{needs}
+use Rattle.state.proofs.clock.arrival_of.Statement.{statement}
+use Rattle.state.proofs.clock.arrival_of.Tie as tie
+
+returns : tie.Need-returns
+unfolding arrivalOf later
+returns c = search (needs, le-ltb, c .before .before .if1 .taken)
+
+returns-2 : tie.Need-returns-2
+unfolding arrivalOf later
+returns-2 c = search (needs, lt-ltb, c .before .before .if1 .taken)
+
+returns-3 : tie.Need-returns-3
+unfolding arrivalOf later
+returns-3 c = search (needs, c .if1 .left)
+
+pub arrival-of-spec : {M : Type 1} → statement M
+arrival-of-spec = tie.close (tie.spec returns returns-2 returns-3)

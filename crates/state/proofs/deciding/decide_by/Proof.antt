@@ -1,0 +1,46 @@
+-- `state::deciding::decide_by` meets its contract.
+-- Assumes nothing.
+use Rattle.state.proofs.Numbers.{arrives, arrives-not}
+use Rattle.state.proofs.Facts.{ready}
+use mathlib.Core.Path.{sym, ap, _∙_}
+use Prim.Native.Nat.{ℕ}
+use Rattle.state.specs.Deciding.{decidedAt, decidedBy}
+use native.Mathlib.Omega.{arith}
+use borrow.Author.Needs.{needs}
+use Rattle.state.proofs.deciding.decide_by.Statement.{statement}
+use Rattle.state.proofs.deciding.decide_by.Tie as tie
+
+arrival-of-requires : tie.Need-arrival-of-requires
+arrival-of-requires c κs = search needs
+
+enum-known-arrival : tie.Need-enum-known-arrival
+enum-known-arrival c = search needs
+
+decide-at-requires : tie.Need-decide-at-requires
+decide-at-requires c κs = let a = c .before .before .before .before .args in let t = arrives (a .state .clock) (a .f .count) _ (sym (c .before .before .before .arrival-of .ensures) ∙ c .before .arrival .given .1) in ready (a .state) (a .f) _ (c .before .before .before .before .pre .0) (rw (t .1) (t .0)) (c .before .before .before .before .pre .1)
+
+enum-told : tie.Need-enum-told
+enum-told c = search needs
+
+refused-requires : tie.Need-refused-requires
+refused-requires c κs = search needs
+
+returns : tie.Need-returns
+unfolding decidedBy
+returns c = let a = c .before .before .before .before .before .args in let t = arrives (a .state .clock) (a .f .count) _ (sym (c .before .before .before .before .arrival-of .ensures) ∙ c .before .before .arrival .given .1) in rw (t .0) (c .decide-at .ensures ∙ ap (λ (d : ℕ). decidedAt (a .state) (a .f) d (a .range)) (t .1))
+
+returns-2 : tie.Need-returns-2
+unfolding decidedBy
+returns-2 c = let a = c .before .before .before .before .args in rw (arrives-not (a .state .clock) (a .f .count) (sym (c .before .before .before .arrival-of .ensures) ∙ c .before .enum-told .given .1)) (c .refused .ensures)
+
+pub decide-by-spec : {M : Type 1} → statement M
+decide-by-spec =
+    tie.close
+    (tie.spec
+    arrival-of-requires
+    enum-known-arrival
+    decide-at-requires
+    enum-told
+    refused-requires
+    returns
+    returns-2)

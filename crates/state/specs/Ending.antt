@@ -1,0 +1,55 @@
+-- What finish decides (01, "Joining accumulations").
+-- Assumes nothing.
+use Prim.Native.Nat.{ℕ}
+use mathlib.Core.Bool.{Bool, false, cond, _&&_}
+use mathlib.Core.Path.{_≡_}
+use Rattle.state.specs.Accumulation.{noAccumulation, isOpen, unreported, reported}
+use Rattle.state.specs.Major.{noMajor, majorOpen, majorUnreported, majorReported}
+use Rattle.state.specs.List.{listed}
+use Rattle.state.specs.Deciding.{noWork}
+use Rattle.state.specs.declared.State.{State}
+use Rattle.state.specs.declared.ending.Ended.{Ended}
+use Rattle.state.specs.declared.ending.Ending.{Ending}
+use Rattle.state.specs.declared.ending.Ending.the-variants.{Refused, Done}
+use Rattle.state.specs.declared.work.Work.{Work}
+
+-- "Finish can give 1 only."
+abbrev pub endNumber : State → Bool → ℕ
+endNumber s sized = cond (sized && listed s) 0 1
+
+abbrev pub unended : State → Ended
+unended s = record {
+  finished = record { ending = Refused 1; state = s; major = majorUnreported; accumulation = unreported };
+  samples = noWork;
+  cells = noWork;
+}
+
+-- "Closing copies the open buffer to the finished buffer ... and clears the open buffer to 0."
+abbrev pub closingWork : Bool → Work
+closingWork held = record { copies = held; clears = held; lays = false }
+
+-- "Closed by finish: whichever are open, likewise. Finish keeps the last accepted count, and nothing stays open."
+abbrev pub ending : State → Ended
+ending s = record {
+  finished = record {
+    ending = Done;
+    state = record { clock = s .clock; accumulation = noAccumulation; major = noMajor };
+    major = majorReported (s .major);
+    accumulation = reported (s .accumulation);
+  };
+  samples = closingWork (majorOpen (s .major));
+  cells = closingWork (isOpen (s .accumulation));
+}
+
+unfoldable pub endedOf : State → Bool → Ended
+endedOf s sized = cond (sized && listed s) (ending s) (unended s)
+
+-- 01's number of each case
+unfoldable pub endingNumber : Ending → ℕ
+endingNumber (Refused n) = n
+endingNumber Done = 0
+
+-- one decision; and its number, which follows
+pub record EndedIs (s : State) (sized : Bool) (x : Ended) : Type 0 where
+  pub is : x ≡ endedOf s sized
+  pub number : endingNumber (x .finished .ending) ≡ endNumber s sized
