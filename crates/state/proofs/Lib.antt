@@ -4,3 +4,4 @@ pub mod Parts
 pub mod Numbers
 pub mod Facts
 pub mod Ends
+pub mod Told

@@ -28,10 +28,10 @@ use Rattle.state.specs.declared.deciding.Decided.{Decided}
 use Rattle.state.proofs.Clauses.{held, fails}
 
 -- rules 12 and 13
-abbrev late : Input → ℕ
+abbrev pub late : Input → ℕ
 late i = cond (clockHolds i) (cond (guardHolds i) 0 13) 12
 
-number-is : (i : Input) → numberOf i ≡ cond (stateHolds i) (cond (eqb (broken (i .bytes)) 0) (late i) (broken (i .bytes))) 1
+pub number-is : (i : Input) → numberOf i ≡ cond (stateHolds i) (cond (eqb (broken (i .bytes)) 0) (late i) (broken (i .bytes))) 1
 unfolding numberOf readerRules firstBroken broken rules
 number-is i = ap (λ (n : ℕ). cond (stateHolds i) n 1) (parts-then (λ (i : Input). i .bytes) rules (rule 12 clockHolds ∷ rule 13 guardHolds ∷ []) i 2 (omega arith) (refl, (refl, (refl, (refl, (refl, (refl, (refl, (refl, (refl, (refl, tt)))))))))))
 
