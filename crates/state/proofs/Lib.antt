@@ -5,3 +5,8 @@ pub mod Numbers
 pub mod Facts
 pub mod Ends
 pub mod Told
+pub mod KeepsFrames
+pub mod KeepsSlots
+pub mod Keeping
+pub mod Closing
+pub mod Single

@@ -4,3 +4,4 @@ pub mod Major
 pub mod List
 pub mod Deciding
 pub mod Ending
+pub mod Keeping
