@@ -30,6 +30,11 @@ extern "C" {
 #define LPMAG_SCIENCE_AT 85 /* where they stand in the packet */
 #define LPMAG_CELLS 2997    /* an accumulation: 2,988 cells, 9 bytes of bit pairs */
 #define LPMAG_FIELDS 28     /* the room of lpmag_fields */
+#define LPMAG_FRAME 864     /* numbers: the samples of a major frame, 16 slots of 54 */
+#define LPMAG_STATE 102     /* the reader's state */
+#define LPMAG_MAJOR 60      /* a major frame but for its samples */
+#define LPMAG_CLOSED 78     /* what a call closed */
+#define LPMAG_REPORT 107    /* the report of lpmag_step */
 
 /* Answers that give no value. */
 #define LPMAG_NO_SUCH_PLACE 8  /* nothing stands where it was asked for */
@@ -37,6 +42,11 @@ extern "C" {
 #define LPMAG_SCALE_UNKNOWN 10 /* the frame that says its scale isn't held */
 #define LPMAG_TOO_LARGE 11     /* a sum past 64 bits */
 #define LPMAG_NO_SUCH_BIN 88   /* lpmag_angle: no such anode or spin phase */
+
+/* What became of a frame (01, "Joining accumulations"). */
+#define LPMAG_OPENS 0    /* a real-time frame that opened an accumulation */
+#define LPMAG_JOINS 1    /* a real-time frame that joined the open one */
+#define LPMAG_NEITHER 2  /* an other frame */
 
 /* Kinds that are no real-time type (0 to 35). */
 #define LPMAG_OTHER 64     /* types 36-57, 62, 63 */
@@ -168,6 +178,88 @@ uint8_t lpmag_count_sum(uint64_t low_a, uint64_t high_a, uint64_t low_b, uint64_
 /* The angle 0 to 87 of an anode 0 to 15 at a spin phase 0 to 7 (000, section
  * 2.3.2); else LPMAG_NO_SUCH_BIN. */
 uint8_t lpmag_angle(size_t anode, size_t phase);
+
+/* ---- the reader ------------------------------------------------------- */
+
+/* One record in, one answer out. Between calls the caller keeps a state and four
+ * buffers, and hands each on as the last call left it:
+ *   open and finished cells     LPMAG_CELLS bytes each
+ *   open and finished samples   LPMAG_FRAME numbers each: slot s, MAG number k (0
+ *                               to 53: vector k / 3, axis k % 3) at 54 s + k
+ * The fresh state is LPMAG_STATE bytes of 0; the buffers may hold anything then.
+ *
+ * The state, most significant byte first:
+ *      0     1 when a record was accepted, else 0 (any other byte is no state)
+ *    1-8     the last accepted count
+ *   9-16     the open accumulation: the count of its first frame,
+ *  17-24     the frames held, bit u of weight 2^u for type u,
+ *     25     the type of its last frame,
+ *  26-33     the count of its last frame,
+ *  34-41     the other frames accepted since
+ *  42-101    the open major frame, LPMAG_MAJOR bytes:
+ *              0-7   its number, the count divided by 16
+ *              8-9   the slots held, bit s of weight 2^s for slot s
+ *             10-11  the slots held with MAG, likewise
+ *             12-27  the 16 ranges
+ *             28-59  the 16 subcom words, two bytes each
+ * An accumulation is open when it holds a frame, a major frame when it holds a
+ * slot. Two states with the same content have the same bytes.
+ *
+ * What a call closed, LPMAG_CLOSED bytes:
+ *      0     1 when a major frame was closed, else 0
+ *   1-60     that major frame, LPMAG_MAJOR bytes; its samples are in the finished
+ *            samples
+ *     61     1 when an accumulation was closed, else 0
+ *  62-69     the count of its first frame
+ *  70-77     the frames it holds; its cells are in the finished cells
+ * What wasn't closed is all 0.
+ *
+ * lpmag_step answers 0 when the record is accepted, else the number of the first
+ * rule that fails (01, "Numbers a refused record gets"): 1 when the state, the
+ * report or a buffer is of another size, or the state is none or breaks 01's list;
+ * 2 to 11 as lpmag_check; 12 when its count isn't above the last accepted; 13 when
+ * its type is already held in the accumulation that it joins, which can't be from a
+ * state that keeps the list. On a refusal nothing that was lent changes. An accepted record's report, LPMAG_REPORT bytes:
+ *    0-27    its fields, as lpmag_fields writes them
+ *     28     LPMAG_OPENS, LPMAG_JOINS or LPMAG_NEITHER
+ *   29-106   what it closed, LPMAG_CLOSED bytes
+ * A finished buffer changes only when something closes into it. */
+uint8_t lpmag_step(uint8_t *state, size_t state_length, uint8_t *open_cells,
+                   size_t open_cells_length, uint8_t *finished_cells, size_t finished_cells_length,
+                   int16_t *open_samples, size_t open_samples_length, int16_t *finished_samples,
+                   size_t finished_samples_length, const uint8_t *record, size_t length,
+                   uint8_t *report, size_t report_length);
+
+/* Closes what is open, the major frame and the accumulation, and keeps the last
+ * accepted count. Answers 0 and writes what it closed into a room of LPMAG_CLOSED
+ * bytes; or 1, as lpmag_step, and then nothing that was lent changes. */
+uint8_t lpmag_finish(uint8_t *state, size_t state_length, uint8_t *open_cells,
+                     size_t open_cells_length, uint8_t *finished_cells,
+                     size_t finished_cells_length, int16_t *open_samples,
+                     size_t open_samples_length, int16_t *finished_samples,
+                     size_t finished_samples_length, uint8_t *closed, size_t closed_length);
+
+/* ---- questions about a finished major frame --------------------------- */
+
+/* `major` is LPMAG_MAJOR bytes as reported, `samples` the finished samples. All
+ * three answer LPMAG_NO_SUCH_PLACE for a slot above 15 or bytes or samples of
+ * another size, and in the cases that each names; only after that LPMAG_ABSENT
+ * when the slot isn't held (for a sample and a field: isn't marked as held with
+ * MAG). A number lent for an answer changes only when the answer is 0; its pointer
+ * is never null. */
+
+/* The subcom word of a slot. */
+uint8_t lpmag_major_word(const uint8_t *major, size_t major_length, size_t slot, uint16_t *word);
+
+/* MAG number 0 to 53 of a slot. LPMAG_NO_SUCH_PLACE also for any other number, and
+ * where what stands there is outside -2,048 to 2,047. */
+uint8_t lpmag_major_sample(const uint8_t *major, size_t major_length, const int16_t *samples,
+                           size_t samples_length, size_t slot, size_t number, int16_t *sample);
+
+/* Its nominal field in nT, as lpmag_field gives it. LPMAG_NO_SUCH_PLACE in the same
+ * cases, and where the slot's range is above 7. */
+uint8_t lpmag_major_field(const uint8_t *major, size_t major_length, const int16_t *samples,
+                          size_t samples_length, size_t slot, size_t number, float *field);
 
 #ifdef __cplusplus
 }

@@ -1,5 +1,6 @@
-pub mod Encoded
 pub mod Outcomes
 pub mod Places
 pub mod Counts
+pub mod Hands
+pub mod Asked
 pub mod Single

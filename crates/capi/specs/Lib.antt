@@ -1,4 +1,5 @@
-pub mod Bytes
 pub mod Answers
 pub mod Electrons
+pub mod Reading
+pub mod Frames
 pub mod Handing

@@ -1,8 +1,10 @@
 // The exported C functions, on numbers and lent slices; include/lpmag.h documents each. They pass on what the libraries below answer.
 mod accumulation;
 mod counting;
+mod frames;
 mod magnetometer;
 mod numbers;
+mod reading;
 mod records;
 
 // LPMAG_NO_SUCH_PLACE, LPMAG_ABSENT, LPMAG_SCALE_UNKNOWN, LPMAG_TOO_LARGE, LPMAG_NO_SUCH_BIN.

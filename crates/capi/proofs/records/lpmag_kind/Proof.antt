@@ -1,7 +1,7 @@
 -- `capi::records::lpmag_kind` meets its contract.
 -- Assumes nothing.
 use mathlib.Core.Path.{ap, _∙_}
-use Rattle.capi.specs.Bytes.{kindNumber}
+use Rattle.encoding.specs.Fields.{kindNumber}
 use borrow.Author.Needs.{needs}
 use Rattle.capi.proofs.records.lpmag_kind.Statement.{statement}
 use Rattle.capi.proofs.records.lpmag_kind.Tie as tie

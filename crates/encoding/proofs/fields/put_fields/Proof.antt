@@ -1,0 +1,25 @@
+-- `encoding::fields::put_fields` meets its contract.
+-- Assumes nothing.
+use Rattle.encoding.proofs.Puts.{fields-put}
+use borrow.Author.Needs.{needs}
+use Rattle.encoding.proofs.fields.put_fields.Statement.{statement}
+use Rattle.encoding.proofs.fields.put_fields.Tie as tie
+
+encoded-requires : tie.Need-encoded-requires
+encoded-requires c κs = search needs
+
+slice-aggregate-copy : tie.Need-slice-aggregate-copy
+slice-aggregate-copy c = search needs
+
+copy-requires : tie.Need-copy-requires
+copy-requires c κs = search needs
+
+same-length : tie.Need-same-length
+same-length c = search needs
+
+returns : tie.Need-returns
+returns c = fields-put (c .before .before .before .before .before .before .before .args .f) (c .before .before .before .before .before .before .before .args .room .now) (c .before .before .before .before .before .encoded .result) (c .before .before .copy .last .1 .0) (c .before .before .before .before .before .encoded .ensures) (c .before .before .copy .ensures)
+
+pub put-fields-spec : {M : Type 1} → statement M
+put-fields-spec =
+    tie.close (tie.spec encoded-requires slice-aggregate-copy copy-requires same-length returns)

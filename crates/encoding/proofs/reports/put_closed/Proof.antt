@@ -1,0 +1,82 @@
+-- `encoding::reports::put_closed` meets its contract.
+-- Assumes nothing.
+use lib.ListN.{length-set}
+use Rattle.encoding.specs.Reports.{closedSize, closedBytes}
+use Rattle.encoding.proofs.Puts.{not-written, closed-put, closed-kept}
+use native.Mathlib.Omega.{arith}
+use borrow.Author.Needs.{needs}
+use Rattle.encoding.proofs.reports.put_closed.Statement.{statement}
+use Rattle.encoding.proofs.reports.put_closed.Tie as tie
+
+returns : tie.Need-returns
+returns c = not-written closedSize (closedBytes (c .before .before .args .major) (c .before .before .args .accumulation)) (c .before .before .args .room .now) (c .if1 .taken)
+
+flag-of-requires : tie.Need-flag-of-requires
+flag-of-requires c κs = search needs
+
+slice-write-room : tie.Need-slice-write-room
+slice-write-room c = search needs
+
+sub-put-major : tie.Need-sub-put-major
+sub-put-major c = search needs
+
+part-put-major-start : tie.Need-part-put-major-start
+part-put-major-start c = search needs
+
+part-put-major-end : tie.Need-part-put-major-end
+part-put-major-end c = omega (arith, length-set (c .before .before .before .args .room .now) 0 (c .flag-of .result))
+
+put-major-requires : tie.Need-put-major-requires
+put-major-requires c κs = search needs
+
+bytes8-requires : tie.Need-bytes8-requires
+bytes8-requires c κs = search needs
+
+bytes8-requires-2 : tie.Need-bytes8-requires-2
+bytes8-requires-2 c κs = search needs
+
+flag-of-requires-2 : tie.Need-flag-of-requires-2
+flag-of-requires-2 c κs = search needs
+
+slice-write-room-2 : tie.Need-slice-write-room-2
+slice-write-room-2 c = omega (arith, c .before .before .before .before .room .given .1, length-set (c .before .before .before .before .before .before .before .before .before .before .args .room .now) 0 (c .before .before .before .before .before .before .before .flag-of .result), c .before .before .before .before .before .before .before .before .if1 .left)
+
+slice-aggregate-lay : tie.Need-slice-aggregate-lay
+slice-aggregate-lay c = search needs
+
+lay-requires : tie.Need-lay-requires
+lay-requires c κs = search needs
+
+slice-aggregate-lay-2 : tie.Need-slice-aggregate-lay-2
+slice-aggregate-lay-2 c = search needs
+
+lay-requires-2 : tie.Need-lay-requires-2
+lay-requires-2 c κs = search needs
+
+same-length : tie.Need-same-length
+same-length c = closed-kept (c .before .before .before .before .before .before .before .before .before .before .before .before .before .before .before .before .before .before .before .before .args .room .now) (c .before .before .before .before .before .before .before .before .before .before .before .before .before .before .before .put-major .last .1 .0) (c .before .before .before .before .before .before .before .before .before .before .before .before .bytes8 .result) (c .before .before .before .before .before .before .before .before .before .before .before .bytes82 .result) (c .before .before .before .before .before .before .before .lay .last .1 .0) (c .before .before .lay2 .last .1 .0) (c .before .before .before .before .before .before .before .before .before .before .before .before .before .before .before .before .before .flag-of .result) (c .before .before .before .before .before .before .before .before .before .before .flag-of2 .result) (c .before .before .before .before .before .before .before .before .before .before .before .before .before .before .room .given .1) (c .before .before .before .before .before .before .before .lay .ensures) (c .before .before .lay2 .ensures)
+
+returns-2 : tie.Need-returns-2
+returns-2 c = closed-put (c .before .before .before .before .before .before .before .before .before .before .before .before .before .before .before .before .before .before .before .before .args .major) (c .before .before .before .before .before .before .before .before .before .before .before .before .before .before .before .before .before .before .before .before .args .accumulation) (c .before .before .before .before .before .before .before .before .before .before .before .before .before .before .before .before .before .before .before .before .args .room .now) (c .before .before .before .before .before .before .before .before .before .before .before .before .before .before .before .put-major .last .1 .0) (c .before .before .before .before .before .before .before .before .before .before .before .before .bytes8 .result) (c .before .before .before .before .before .before .before .before .before .before .before .bytes82 .result) (c .before .before .before .before .before .before .before .lay .last .1 .0) (c .before .before .lay2 .last .1 .0) (c .before .before .before .before .before .before .before .before .before .before .before .before .before .before .before .before .before .flag-of .result) (c .before .before .before .before .before .before .before .before .before .before .flag-of2 .result) (c .before .before .before .before .before .before .before .before .before .before .before .before .before .before .before .before .before .before .if1 .left) (c .before .before .before .before .before .before .before .before .before .before .before .before .before .before .before .before .before .flag-of .ensures) (c .before .before .before .before .before .before .before .before .before .before .before .before .before .before .before .put-major .ensures) (c .before .before .before .before .before .before .before .before .before .before .before .before .before .before .room .given .0) (c .before .before .before .before .before .before .before .before .before .before .before .before .bytes8 .ensures) (c .before .before .before .before .before .before .before .before .before .before .before .bytes82 .ensures) (c .before .before .before .before .before .before .before .before .before .before .flag-of2 .ensures) (c .before .before .before .before .before .before .before .lay .ensures) (c .before .before .lay2 .ensures)
+
+pub put-closed-spec : {M : Type 1} → statement M
+put-closed-spec =
+    tie.close
+    (tie.spec
+    returns
+    flag-of-requires
+    slice-write-room
+    sub-put-major
+    part-put-major-start
+    part-put-major-end
+    put-major-requires
+    bytes8-requires
+    bytes8-requires-2
+    flag-of-requires-2
+    slice-write-room-2
+    slice-aggregate-lay
+    lay-requires
+    slice-aggregate-lay-2
+    lay-requires-2
+    same-length
+    returns-2)
