@@ -1,6 +1,7 @@
 /* How long laying a frame takes: lpmag_lay_electrons of include/lpmag.h and the
  * same in C, one after the other on the same frames. */
 #include "laying_c.h"
+#include "timing.h"
 
 #include "../compare/random.h"
 #include "../compare/second_electrons.h"
@@ -62,53 +63,12 @@ static void expect_equal_layings(void)
 
 /* ---- how long they take ----------------------------------------------- */
 
-static uint64_t nanoseconds(void)
-{
-    struct timespec now;
-    if (clock_gettime(CLOCK_MONOTONIC, &now) != 0)
-        fail(1, "bench: the clock can't be read");
-    return (uint64_t)now.tv_sec * 1000000000 + (uint64_t)now.tv_nsec;
-}
-
 static uint64_t time_passes(laying *function, uint8_t *cells)
 {
     uint64_t start = nanoseconds();
     for (unsigned i = 0; i < PASSES; i++)
         lay(function, packets, FRAMES, cells);
     return nanoseconds() - start;
-}
-
-/* The timings of one function, in rising order once they are sorted. */
-struct timings {
-    uint64_t of[REPEATS];
-};
-
-static void sort(struct timings *timings)
-{
-    for (size_t i = 1; i < REPEATS; i++)
-        for (size_t j = i; j > 0 && timings->of[j - 1] > timings->of[j]; j--) {
-            uint64_t larger = timings->of[j - 1];
-            timings->of[j - 1] = timings->of[j];
-            timings->of[j] = larger;
-        }
-}
-
-/* ---- what is printed -------------------------------------------------- */
-
-static void print_hundredths(uint64_t hundredths)
-{
-    print_number(hundredths / 100);
-    print_text(hundredths % 100 < 10 ? ".0" : ".");
-    print_number(hundredths % 100);
-}
-
-static void print_time(const char *title, const struct timings *timings)
-{
-    print_text(title);
-    print_hundredths(timings->of[0] * 100 / (PASSES * FRAMES));
-    print_text(" ns a frame at best, ");
-    print_hundredths(timings->of[REPEATS / 2] * 100 / (PASSES * FRAMES));
-    print_text(" in the median\n");
 }
 
 int main(void)
@@ -121,14 +81,14 @@ int main(void)
     /* In turn, each as often before the other as after it. */
     for (size_t i = 0; i < REPEATS; i++) {
         if (i % 2 == 0)
-            first.of[i] = time_passes(lpmag_lay_electrons, first_cells);
-        in_c.of[i] = time_passes(laying_c, c_cells);
+            add_timing(&first, time_passes(lpmag_lay_electrons, first_cells));
+        add_timing(&in_c, time_passes(laying_c, c_cells));
         if (i % 2 != 0)
-            first.of[i] = time_passes(lpmag_lay_electrons, first_cells);
+            add_timing(&first, time_passes(lpmag_lay_electrons, first_cells));
     }
     expect_same(first_cells, c_cells);
-    sort(&first);
-    sort(&in_c);
+    sort_timings(&first);
+    sort_timings(&in_c);
 
     print_text("laying, ");
     print_number(FRAMES);
@@ -137,13 +97,9 @@ int main(void)
     print_text(" times a timing, ");
     print_number(REPEATS);
     print_text(" timings each\n");
-    print_time("first: ", &first);
-    print_time("C: ", &in_c);
-    print_text("first / C: ");
-    print_hundredths(first.of[0] * 100 / in_c.of[0]);
-    print_text(" at best, ");
-    print_hundredths(first.of[REPEATS / 2] * 100 / in_c.of[REPEATS / 2]);
-    print_text(" in the median\n");
+    print_times("first: ", &first, PASSES * FRAMES, "frame");
+    print_times("C: ", &in_c, PASSES * FRAMES, "frame");
+    print_ratios("first / C: ", &first, &in_c);
     print_flush();
     return 0;
 }

@@ -27,6 +27,11 @@ static const char *const names[FUNCTIONS] = {
     [COUNT_RANGE] = "count_range",
     [COUNT_SUM] = "count_sum",
     [ANGLE] = "angle",
+    [STEP] = "step",
+    [FINISH] = "finish",
+    [MAJOR_WORD] = "major_word",
+    [MAJOR_SAMPLE] = "major_sample",
+    [MAJOR_FIELD] = "major_field",
 };
 
 const char *function_name(enum function function)
@@ -75,6 +80,8 @@ static void print_question(const struct drive *drive, const struct question *que
         print_text(question->also[i].name);
         print_number_line(": ", question->also[i].number);
     }
+    if (drive->state != NULL)
+        print_hex_line("the state it has: ", drive->state, LPMAG_STATE);
 }
 
 _Noreturn static void stop(void)

@@ -9,12 +9,16 @@ _Static_assert(LPMAG_RECORD == SECOND_RECORD && LPMAG_PACKET == SECOND_PACKET &&
                    LPMAG_PACKET_AT == SECOND_PACKET_AT && LPMAG_MAG == SECOND_MAG &&
                    LPMAG_MAG_AT == SECOND_MAG_AT && LPMAG_SAMPLES == SECOND_SAMPLES &&
                    LPMAG_SCIENCE == SECOND_SCIENCE && LPMAG_SCIENCE_AT == SECOND_SCIENCE_AT &&
-                   LPMAG_CELLS == SECOND_CELLS && LPMAG_FIELDS == SECOND_FIELDS,
+                   LPMAG_CELLS == SECOND_CELLS && LPMAG_FIELDS == SECOND_FIELDS &&
+                   LPMAG_FRAME == SECOND_FRAME && LPMAG_STATE == SECOND_STATE &&
+                   LPMAG_MAJOR == SECOND_MAJOR && LPMAG_CLOSED == SECOND_CLOSED &&
+                   LPMAG_REPORT == SECOND_REPORT,
                "both headers name the same sizes and places");
 _Static_assert(LPMAG_OTHER == SECOND_OTHER && LPMAG_UNDEFINED == SECOND_UNDEFINED &&
                    LPMAG_NO_SUCH_PLACE == SECOND_NO_SUCH_PLACE && LPMAG_ABSENT == SECOND_ABSENT &&
                    LPMAG_SCALE_UNKNOWN == SECOND_SCALE_UNKNOWN && LPMAG_TOO_LARGE == SECOND_TOO_LARGE &&
-                   LPMAG_NO_SUCH_BIN == SECOND_NO_SUCH_BIN,
+                   LPMAG_NO_SUCH_BIN == SECOND_NO_SUCH_BIN && LPMAG_OPENS == SECOND_OPENS &&
+                   LPMAG_JOINS == SECOND_JOINS && LPMAG_NEITHER == SECOND_NEITHER,
                "both headers name the same kinds and answers");
 
 /* Prints how often something was met; ends the program if it never was. */
@@ -36,7 +40,7 @@ static uint64_t rarest(const uint64_t *times, size_t length)
     return least;
 }
 
-/* Each answer that the functions of the electrons can give. */
+/* Each answer that the questions can give, and laying and counts. */
 static void print_answers_met(const struct drive *drive)
 {
     enum {
@@ -58,6 +62,9 @@ static void print_answers_met(const struct drive *drive)
         {RATE, VALUE | PLACE | ABSENT},
         {COUNT_RANGE, VALUE | PLACE},
         {COUNT_SUM, VALUE | LARGE},
+        {MAJOR_WORD, VALUE | PLACE | ABSENT},
+        {MAJOR_SAMPLE, VALUE | PLACE | ABSENT},
+        {MAJOR_FIELD, VALUE | PLACE | ABSENT},
     };
     for (size_t i = 0; i < sizeof given / sizeof given[0]; i++)
         for (unsigned answer = 0; answer <= LPMAG_TOO_LARGE; answer++)
@@ -71,7 +78,6 @@ static void print_answers_met(const struct drive *drive)
 
 static void print_electrons_met(const struct drive *drive)
 {
-    print_answers_met(drive);
     print_met("frames laid, of the rarest type among 0 to 35", rarest(drive->laid, 36));
     print_met("accumulations laid whole", drive->accumulations);
     print_met("raw cells, of the rarest", rarest(drive->cells_given, 2988));
@@ -84,6 +90,116 @@ static void print_electrons_met(const struct drive *drive)
     print_met("sums past 64 bits in both", drive->sums_past[true][true]);
     print_met("anodes and phases, of the rarest angle among 0 to 87", rarest(drive->angles, 88));
     print_met("anodes and phases of no such bin", drive->angles[LPMAG_NO_SUCH_BIN]);
+}
+
+/* The rarest pair of a last type and a type at least so much above it. */
+static uint64_t rarest_above(const uint64_t (*times)[36], size_t above)
+{
+    uint64_t least = UINT64_MAX;
+    for (size_t last = 0; last < 36; last++)
+        for (size_t type = last + above; type < 36; type++)
+            least = times[last][type] < least ? times[last][type] : least;
+    return least;
+}
+
+static uint64_t rarest_not_above(const uint64_t (*times)[36])
+{
+    uint64_t least = UINT64_MAX;
+    for (size_t last = 0; last < 36; last++)
+        for (size_t type = 0; type <= last; type++)
+            least = times[last][type] < least ? times[last][type] : least;
+    return least;
+}
+
+static uint64_t rarest_taken(const uint64_t (*times)[16])
+{
+    uint64_t least = UINT64_MAX;
+    for (size_t type = 0; type < 36; type++)
+        least = rarest(times[type], 16) < least ? rarest(times[type], 16) : least;
+    return least;
+}
+
+static void print_closed_met(const struct drive *drive)
+{
+    static const char *const by[2] = {"records that close ", "finishes that close "};
+    static const char *const what[2][2] = {{"nothing", "an accumulation alone"},
+                                           {"a major frame alone", "both"}};
+    for (size_t finish = 0; finish < 2; finish++)
+        for (size_t major = 0; major < 2; major++)
+            for (size_t accumulation = 0; accumulation < 2; accumulation++) {
+                print_text(by[finish]);
+                print_met(what[major][accumulation], drive->closed[finish][major][accumulation]);
+            }
+}
+
+static void print_joining_met(const struct drive *drive)
+{
+    static const char *const at[EDGES] = {
+        [ONE_BELOW] = "frames with g at u - t - 2, of the rarest types",
+        [LEAST] = "frames with g at u - t - 1, of the rarest types",
+        [MOST] = "frames with g at 34 + (u - t), of the rarest types",
+        [ONE_ABOVE] = "frames with g at 35 + (u - t), of the rarest types",
+    };
+    print_met("frames that open", drive->fates[LPMAG_OPENS]);
+    print_met("frames that join", drive->fates[LPMAG_JOINS]);
+    print_met("frames that do neither", drive->fates[LPMAG_NEITHER]);
+    for (enum edge edge = 0; edge < EDGES; edge++)
+        print_met(at[edge], rarest_above(drive->edges[edge], edge == ONE_BELOW ? 2 : 1));
+    print_met("frames of a type not above the last, of the rarest types", rarest_not_above(drive->not_above));
+    print_met("frames of a higher type that open after other frames", drive->past_others[LPMAG_OPENS]);
+    print_met("frames that join after other frames", drive->past_others[LPMAG_JOINS]);
+    print_met("other frames with no accumulation open", drive->others_counted[false]);
+    print_met("other frames with one open", drive->others_counted[true]);
+    print_met("real-time frames taken, of the rarest type and slot", rarest_taken(drive->taken));
+}
+
+static void print_states_met(const struct drive *drive)
+{
+    static const char *const sized[SIZED] = {
+        [STATE] = "the state",
+        [OPEN_CELLS] = "the open cells",
+        [FINISHED_CELLS] = "the finished cells",
+        [OPEN_SAMPLES] = "the open samples",
+        [FINISHED_SAMPLES] = "the finished samples",
+        [REPORT] = "the report",
+    };
+    print_met("states at random that keep the list", drive->passing);
+    for (enum clause clause = 0; clause < CLAUSES; clause++) {
+        if (clause == FIRST_COUNT_BELOW || clause == LAST_COUNT_BELOW)
+            continue; /* never broken alone */
+        print_text("states that break only \"");
+        print_text(clause_name(clause));
+        print_met("\"", drive->broken[clause]);
+    }
+    for (size_t finish = 0; finish < 2; finish++)
+        for (enum sized room = 0; room < SIZED; room++) {
+            print_text(finish ? "finish with a wrong size of " : "step with a wrong size of ");
+            print_met(sized[room], drive->wrong_sizes[finish][room]);
+        }
+}
+
+/* Rule 13 is never met: no state that keeps the list holds a type above its last. */
+static void print_reader_met(const struct drive *drive)
+{
+    for (unsigned answer = 0; answer <= 12; answer++) {
+        print_text("step with answer ");
+        print_number(answer);
+        print_met("", drive->steps[answer]);
+    }
+    print_met("finish with answer 0", drive->finishes[0]);
+    print_met("finish with answer 1", drive->finishes[1]);
+    print_met("records accepted with the fresh state", drive->fresh[false]);
+    print_met("finishes of the fresh state", drive->fresh[true]);
+    print_closed_met(drive);
+    print_joining_met(drive);
+    print_states_met(drive);
+    print_met("records kept of those sent in order", drive->sent_kept);
+    print_met("real-time ones of them", drive->sent_real_time);
+    print_met("accumulations handed out whole", drive->accumulations_whole);
+    print_met("accumulations handed out in part", drive->accumulations_part);
+    print_met("accumulations torn", drive->accumulations_torn);
+    print_met("major frames handed out whole", drive->majors_whole);
+    print_met("major frames handed out in part", drive->majors_part);
 }
 
 static void print_all_met(const struct drive *drive)
@@ -107,7 +223,9 @@ static void print_all_met(const struct drive *drive)
     print_met("undefined packets", drive->kinds[LPMAG_UNDEFINED]);
     print_met("MAG bytes, of the rarest range among 0 to 7", rarest(drive->ranges, 8));
     print_met("MAG bytes or rooms of no such place", drive->ranges[SECOND_NO_SUCH_PLACE]);
+    print_answers_met(drive);
     print_electrons_met(drive);
+    print_reader_met(drive);
 }
 
 int main(int argc, char **argv)
@@ -127,6 +245,11 @@ int main(int argc, char **argv)
     drive_cells(&drive);
     drive_counts(&drive);
     drive_questions(&drive);
+    drive_reader(&drive);
+    drive_sent(&drive);
+    drive_states(&drive);
+    drive_refusals(&drive);
+    drive_major(&drive);
 
     print_all_met(&drive);
     print_text("compare: all equal\n");

@@ -10,6 +10,7 @@
 #include "../include/lpmag.h"
 #include "second.h"
 #include "second_electrons.h"
+#include "second_reader.h"
 
 #include <stdbool.h>
 #include <stddef.h>
@@ -38,14 +39,52 @@ enum function {
     COUNT_RANGE,
     COUNT_SUM,
     ANGLE,
+    STEP,
+    FINISH,
+    MAJOR_WORD,
+    MAJOR_SAMPLE,
+    MAJOR_FIELD,
     FUNCTIONS
 };
 
 const char *function_name(enum function function);
 
+/* The clauses of 01's state list, in its order; before them what the header says
+ * of byte 0. */
+enum clause {
+    ACCEPTED_IS_0_OR_1,
+    LAST_ACCEPTED_BELOW,
+    FIRST_COUNT_BELOW,
+    LAST_COUNT_BELOW,
+    FRAMES_AMONG_36,
+    HIGHEST_IS_LAST_TYPE,
+    FIRST_AND_FRAMES,
+    LAST_AND_OTHERS,
+    MAG_AMONG_SLOTS,
+    MAJOR_NUMBER,
+    HIGHEST_SLOT,
+    RANGES_TO_7,
+    RANGES_NOT_HELD,
+    WORDS_NOT_HELD,
+    NO_ACCUMULATION_OPEN,
+    NO_SLOT_HELD,
+    NOTHING_ACCEPTED,
+    CLAUSES
+};
+
+const char *clause_name(enum clause clause);
+
+/* The two edges of the joining rule (01, "Joining accumulations"), on either side:
+ * g is u - t - 2, u - t - 1, 34 + (u - t), 35 + (u - t). */
+enum edge { ONE_BELOW, LEAST, MOST, ONE_ABOVE, EDGES };
+
+/* What a wrong size can be of, for the reader's functions. */
+enum sized { STATE, OPEN_CELLS, FINISHED_CELLS, OPEN_SAMPLES, FINISHED_SAMPLES, REPORT, SIZED };
+
 struct drive {
     struct random random;
-    const char *phase; /* what is being compared */
+    const char *phase;    /* what is being compared */
+    const uint8_t *state; /* that the reader is called with, LPMAG_STATE bytes, or null */
 
     /* What was met, for the end: a comparison that saw nothing proves nothing. */
     uint64_t calls[FUNCTIONS];                 /* pairs of calls */
@@ -66,6 +105,30 @@ struct drive {
     uint64_t samples_scaled[15];
     uint64_t sums_past[2][2]; /* whether the lows' sum is past 64 bits, and the highs' */
     uint64_t angles[LPMAG_NO_SUCH_BIN + 1];
+
+    /* And of the reader. */
+    uint64_t steps[14];                    /* by answer */
+    uint64_t finishes[2];                  /* by answer */
+    uint64_t fresh[2];                     /* calls of answer 0 with the fresh state: step, finish */
+    uint64_t fates[LPMAG_NEITHER + 1];     /* of accepted frames */
+    uint64_t others_counted[2];            /* other frames with no accumulation open, and with one */
+    uint64_t closed[2][2][2];              /* by finish, a major frame, an accumulation */
+    uint64_t edges[EDGES][36][36];         /* frames at the edges, by last type and type above it */
+    uint64_t not_above[36][36];            /* frames of a type not above the last, likewise */
+    uint64_t past_others[LPMAG_JOINS + 1]; /* frames after other frames, by what became of them */
+    uint64_t taken[36][16];                /* real-time frames, by type and slot */
+    uint64_t broken[CLAUSES];              /* states that break one clause alone */
+    uint64_t passing;                      /* states made at random that break none */
+    uint64_t wrong_sizes[2][SIZED];        /* alone, of step and of finish */
+
+    /* And of streams sent in order. */
+    uint64_t sent_kept;           /* records, real-time or other */
+    uint64_t sent_real_time;      /* the real-time ones of them */
+    uint64_t accumulations_whole; /* handed out with all 36 frames */
+    uint64_t accumulations_part;  /* with fewer */
+    uint64_t accumulations_torn;  /* that were sent and handed out in more than one */
+    uint64_t majors_whole;        /* handed out with all 16 slots */
+    uint64_t majors_part;         /* with fewer */
 };
 
 /* Names what is compared next, in the output too: should an implementation break
@@ -73,7 +136,7 @@ struct drive {
 void begin(struct drive *drive, const char *phase);
 
 /* One question to both implementations. */
-#define QUESTION_ALSO 4
+#define QUESTION_ALSO 6
 struct question {
     enum function function;
     const uint8_t *bytes; /* the record, packet, MAG bytes, science, cells or any bytes */
@@ -106,6 +169,15 @@ void drive_mag(struct drive *drive);
 void drive_cells(struct drive *drive);
 void drive_counts(struct drive *drive);
 void drive_questions(struct drive *drive);
+void drive_reader(struct drive *drive);
+void drive_sent(struct drive *drive);
+void drive_states(struct drive *drive);
+void drive_refusals(struct drive *drive);
+void drive_major(struct drive *drive);
+
+/* The room of lpmag_fields, from the content a record was made of. */
+struct content;
+void fields_of(const struct content *content, uint8_t *fields);
 
 /* The range and the samples of MAG bytes, with a room of so many numbers. */
 void compare_mag(struct drive *drive, const uint8_t *mag, size_t length, size_t room_numbers);

@@ -3,9 +3,6 @@
 
 #include "text.h"
 
-/* Where the types' bit pairs start. */
-#define PAIRS CELLS
-
 /* ---- laying ----------------------------------------------------------- */
 
 /* Science of which all bytes differ, so that one in another's place shows; now and
@@ -18,19 +15,6 @@ static void make_science(struct random *random, uint8_t *science, size_t length)
         science[i] = (uint8_t)(start + step * i);
     if (random_once_in(random, 8))
         random_fill(random, science, length);
-}
-
-/* What laying has to make of the cells. Type u's pair stands in byte u div 4 of
- * the pairs, the first type's highest (01, "ER cells"). */
-static void lay_expected(uint8_t code, const uint8_t *science, uint8_t *cells)
-{
-    unsigned type = code & 63;
-    for (size_t i = 0; i < LPMAG_SCIENCE; i++)
-        cells[layout()->place[type][i]] = science[i];
-
-    unsigned shift = 6 - 2 * (type % 4);
-    unsigned others = cells[PAIRS + type / 4] & ~(3u << shift);
-    cells[PAIRS + type / 4] = (uint8_t)(others | (unsigned)(code >> 6) << shift);
 }
 
 /* Lays a frame into the rooms as they are, and makes what they have to hold then

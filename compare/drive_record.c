@@ -29,8 +29,7 @@ static size_t wrong_size(struct random *random, size_t right)
     }
 }
 
-/* The room of lpmag_fields, from the content a record was made of. */
-static void fields_of(const struct content *content, uint8_t *fields)
+void fields_of(const struct content *content, uint8_t *fields)
 {
     uint8_t type = content->code & 63;
     bool level_finite = (content->level & 0x7F800000) != 0x7F800000;

@@ -6,7 +6,7 @@
 #include "drive.h"
 
 enum { TYPES = 36, CELLS = 2988, BINS = 15, STEPS = 15, SAMPLE_ANGLES = 16, STEP_ANGLES = 88 };
-enum { MOST_SAMPLES = 32 };
+enum { MOST_SAMPLES = 32, PAIRS = CELLS }; /* the types' bit pairs start after the cells */
 
 /* Where things stand in an accumulation, and which frame carries them. */
 struct layout {
@@ -17,6 +17,9 @@ struct layout {
 };
 
 const struct layout *layout(void);
+
+/* What laying a real-time frame has to make of the cells. */
+void lay_expected(uint8_t code, const uint8_t *science, uint8_t *cells);
 
 /* The answer for a cell of an accumulation of that length, NO_CELL where none was
  * named: 0, LPMAG_NO_SUCH_PLACE or LPMAG_ABSENT. */

@@ -10,34 +10,58 @@
 /* The place after the last byte that can be read, before an unreadable page. */
 static uint8_t *readable_end(void)
 {
-    static uint8_t *end = NULL;
-    if (end == NULL) {
-        uint8_t *start = mmap(NULL, 2 * PAGE, PROT_READ | PROT_WRITE, MAP_PRIVATE | MAP_ANONYMOUS, -1, 0);
-        if (start == MAP_FAILED || mprotect(start + PAGE, PAGE, PROT_NONE) != 0)
-            fail(1, "no memory can be had for the bytes to be lent");
-        end = start + PAGE;
-    }
-    return end;
+    uint8_t *start = mmap(NULL, 2 * PAGE, PROT_READ | PROT_WRITE, MAP_PRIVATE | MAP_ANONYMOUS, -1, 0);
+    if (start == MAP_FAILED || mprotect(start + PAGE, PAGE, PROT_NONE) != 0)
+        fail(1, "no memory can be had for the bytes to be lent");
+    return start + PAGE;
+}
+
+/* A copy that ends there, or a number of bytes below 16 before. */
+static uint8_t *lend(uint8_t *end, bool null, size_t before, const void *bytes, size_t length)
+{
+    if (length == 0)
+        return null ? NULL : end;
+    uint8_t *lent = end - length - before;
+    memcpy(lent, bytes, length);
+    return lent;
 }
 
 const uint8_t *lend_bytes(struct random *random, const uint8_t *bytes, size_t length)
 {
+    static uint8_t *end = NULL;
+    if (end == NULL)
+        end = readable_end();
     bool coin = random_once_in(random, 2);
-    if (length == 0)
-        return coin ? NULL : readable_end();
-    uint8_t *lent = readable_end() - length - (coin ? 0 : random_below(random, 16));
-    memcpy(lent, bytes, length);
-    return lent;
+    return lend(end, coin, coin ? 0 : random_below(random, 16), bytes, length);
+}
+
+const int16_t *lend_numbers(struct random *random, const int16_t *numbers, size_t count)
+{
+    static uint8_t *end = NULL;
+    if (end == NULL)
+        end = readable_end();
+    bool coin = random_once_in(random, 2);
+    return (const int16_t *)(void *)lend(end, coin, coin ? 0 : 2 * random_below(random, 8), numbers,
+                                         count * sizeof *numbers);
 }
 
 void rooms_make(struct rooms *rooms, struct random *random, size_t length)
 {
     size_t whole = LEND_GUARD + length + LEND_GUARD;
+    if (length > LEND_ROOM)
+        fail(1, "compare: a room was asked for that is larger than any that can be lent");
     rooms->length = length;
     rooms->null = length == 0 && random_once_in(random, 2);
     random_fill(random, rooms->found.bytes, whole);
     memcpy(rooms->first.bytes, rooms->found.bytes, whole);
     memcpy(rooms->second.bytes, rooms->found.bytes, whole);
+}
+
+void rooms_put(struct rooms *rooms, const uint8_t *bytes, size_t length)
+{
+    memcpy(rooms->found.bytes + LEND_GUARD, bytes, length);
+    memcpy(rooms->first.bytes + LEND_GUARD, bytes, length);
+    memcpy(rooms->second.bytes + LEND_GUARD, bytes, length);
 }
 
 uint8_t *room_of_bytes(const struct rooms *rooms, union lent *lent)
@@ -48,6 +72,11 @@ uint8_t *room_of_bytes(const struct rooms *rooms, union lent *lent)
 int16_t *room_of_numbers(const struct rooms *rooms, union lent *lent)
 {
     return rooms->null ? NULL : lent->numbers + LEND_GUARD / 2;
+}
+
+float *room_of_fields(const struct rooms *rooms, union lent *lent)
+{
+    return rooms->null ? NULL : lent->fields + LEND_GUARD / 4;
 }
 
 static bool changed(const union lent *now, const union lent *found, size_t at, size_t length)

@@ -20,12 +20,16 @@
  * the next call. */
 const uint8_t *lend_bytes(struct random *random, const uint8_t *bytes, size_t length);
 
+/* Likewise numbers, in a place of their own. */
+const int16_t *lend_numbers(struct random *random, const int16_t *numbers, size_t count);
+
 /* Around every room lie as many bytes that nobody may change. */
 #define LEND_GUARD 64
 
 union lent {
     uint8_t bytes[LEND_GUARD + LEND_ROOM + LEND_GUARD];
     int16_t numbers[(LEND_GUARD + LEND_ROOM + LEND_GUARD) / 2];
+    float fields[(LEND_GUARD + LEND_ROOM + LEND_GUARD) / 4];
 };
 
 struct rooms {
@@ -39,9 +43,13 @@ struct rooms {
 /* Two rooms of the length given in bytes, at most LEND_ROOM. */
 void rooms_make(struct rooms *rooms, struct random *random, size_t length);
 
+/* Puts these bytes at the start of both rooms, as what is found there. */
+void rooms_put(struct rooms *rooms, const uint8_t *bytes, size_t length);
+
 /* The pointer to lend for rooms->first or rooms->second. */
 uint8_t *room_of_bytes(const struct rooms *rooms, union lent *lent);
 int16_t *room_of_numbers(const struct rooms *rooms, union lent *lent);
+float *room_of_fields(const struct rooms *rooms, union lent *lent);
 
 /* Null if both rooms have the same content, nothing around them changed and,
  * where `kept`, the rooms themselves didn't; else what went wrong. */

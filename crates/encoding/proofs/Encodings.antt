@@ -10,7 +10,7 @@ use native.Mathlib.Nat.{mod-lt}
 use native.Mathlib.Numerals.{add-one}
 use native.Mathlib.Omega.{arith}
 use lib.Dec.{eqb, leb, ltb}
-use lib.ListN.{length, getD, take, drop, length-drop, take-append-drop, List·getD-eq-default}
+use lib.ListN.{length, getD, take, drop, length-drop, take-append-drop, List·getD-eq-default, replicate}
 use lib.Seq.{take-all, take-at, drop-at, drop-cons, drop-drop, getD-take, getD-drop, length-take-le, ext-getD}
 use borrow.Author.Tests.{eq-eqb, le-leb, eqb-true, leb-true, ltb-true, ltb-false}
 use Rattle.bits.specs.Numbers.{wordIn}
@@ -20,6 +20,8 @@ use Rattle.state.specs.declared.accumulation.Accumulation.{Accumulation}
 use Rattle.state.specs.declared.clock.Clock.{Clock}
 use Rattle.state.specs.declared.major.Major.{Major}
 use Rattle.state.proofs.Facts.{two}
+use Rattle.state.specs.List.{fresh}
+use Rattle.tables.specs.Build.{build}
 use Rattle.tables.proofs.Built.{length-build, getD-build}
 use Rattle.encoding.specs.Numbers.{spread, wordByte, wordsBytes, wordAt, wordsOf}
 use Rattle.encoding.specs.States.{clockSize, accumulationSize, majorSize, stateSize, flag, clockBytes, accumulationBytes, majorBytes, stateBytes, isState, clockIn, accumulationIn, majorIn, majorOf, stateOf}
@@ -233,3 +235,8 @@ state-bytes s f =
 pub state-is : (s : State) → length (s .major .ranges) ≡ 16 → isState (stateBytes s) ≡ true
 unfolding isState stateBytes clockBytes
 state-is s h = rw (eq-eqb (length (stateBytes s)) stateSize (state-size s h), le-leb (flag (s .clock .any)) 1 (flag-low (s .clock .any)))
+
+-- the fresh state is bytes of 0
+pub fresh-bytes : stateBytes fresh ≡ replicate 102 0
+unfolding stateBytes clockBytes accumulationBytes majorBytes wordsBytes build
+fresh-bytes = refl

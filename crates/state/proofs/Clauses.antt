@@ -9,16 +9,14 @@ use native.Mathlib.Omega.{arith}
 use lib.Arith.{lt-of-le-ne}
 use lib.Count.{ones}
 use lib.Dec.{eqb, leb}
-use lib.ListN.{getD}
 use lib.Pow.{pow-mono}
 use borrow.Author.Tests.{eq-eqb, ne-eqb, le-leb, lt-leb, lt-ltb, leb-true, leb-false}
 use Rattle.tables.specs.Marks.{bitSet, highest}
 use Rattle.tables.specs.Upto.{both, upto}
-use Rattle.state.specs.List.{framesAmong, framesFit, othersFit, slotHolds, begun}
+use Rattle.state.specs.List.{framesAmong, framesFit, othersFit, slotTest, begun}
 use Rattle.state.specs.declared.State.{State}
 use Rattle.state.specs.declared.accumulation.Accumulation.{Accumulation}
 use Rattle.state.specs.declared.clock.Clock.{Clock}
-use Rattle.state.specs.declared.major.Major.{Major}
 
 -- marks below 2^n have no highest from n on
 pub none-above : (n t held : ℕ) → held < 2 ^ n → n ≤ t → highest held t ≡ false
@@ -51,33 +49,31 @@ unfolding othersFit
 others-within c a h = leb-less (a .others) (a .«last_count») (c .last) h
 
 -- the four tests of a slot, from its marks, its range and its word
-module _ (m : Major) (i : ℕ) where
-  abbrev range : ℕ
-  range = getD (m .ranges) i 0
+module _ (slots mags range word i : ℕ) where
+  pub range-above : 7 < range → false ≡ slotTest slots mags range word i
+  unfolding slotTest
+  range-above h = rw (lt-leb range 7 h) (sym (and-false (not (bitSet mags i) || bitSet slots i)))
 
-  pub range-above : 7 < range → false ≡ slotHolds m i
-  unfolding slotHolds
-  range-above h = rw (lt-leb range 7 h) (sym (and-false (not (bitSet (m .«mag_slots») i) || bitSet (m .slots) i)))
-
-  pub mag-held : range ≤ 7 → bitSet (m .«mag_slots») i ≡ true → bitSet (m .slots) i ≡ slotHolds m i
-  unfolding slotHolds
-  mag-held h e = rw (le-leb range 7 h, e) (go (bitSet (m .slots) i) (eqb (getD (m .words) i 0) 0))
+  pub mag-held : range ≤ 7 → bitSet mags i ≡ true → bitSet slots i ≡ slotTest slots mags range word i
+  unfolding slotTest
+  mag-held h e = rw (le-leb range 7 h, e) (go (bitSet slots i) (eqb word 0))
     where
       go : (b w : Bool) → b ≡ (b && (b || w))
       go true w = refl
       go false w = refl
 
-  pub range-left : range ≤ 7 → bitSet (m .«mag_slots») i ≡ false → (range ≡ 0 → ⊥) → false ≡ slotHolds m i
-  unfolding slotHolds
-  range-left h e z = rw (le-leb range 7 h, e, ne-eqb range 0 z)
+  module _ (h : range ≤ 7) (e : bitSet mags i ≡ false) where
+    pub range-left : (range ≡ 0 → ⊥) → false ≡ slotTest slots mags range word i
+    unfolding slotTest
+    range-left z = rw (le-leb range 7 h, e, ne-eqb range 0 z)
 
-  pub slot-held : range ≤ 7 → bitSet (m .«mag_slots») i ≡ false → range ≡ 0 → bitSet (m .slots) i ≡ true → true ≡ slotHolds m i
-  unfolding slotHolds
-  slot-held h e z b = rw (le-leb range 7 h, e, eq-eqb range 0 z, b)
+    pub slot-held : range ≡ 0 → bitSet slots i ≡ true → true ≡ slotTest slots mags range word i
+    unfolding slotTest
+    slot-held z b = rw (le-leb range 7 h, e, eq-eqb range 0 z, b)
 
-  pub slot-free : range ≤ 7 → bitSet (m .«mag_slots») i ≡ false → range ≡ 0 → bitSet (m .slots) i ≡ false → eqb (getD (m .words) i 0) 0 ≡ slotHolds m i
-  unfolding slotHolds
-  slot-free h e z b = rw (le-leb range 7 h, e, eq-eqb range 0 z, b)
+    pub slot-free : range ≡ 0 → bitSet slots i ≡ false → eqb word 0 ≡ slotTest slots mags range word i
+    unfolding slotTest
+    slot-free z b = rw (le-leb range 7 h, e, eq-eqb range 0 z, b)
 
 -- until something is accepted
 module _ (s : State) (any : s .clock .any ≡ false) where

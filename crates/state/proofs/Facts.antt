@@ -15,7 +15,7 @@ use Rattle.record.specs.declared.Record.{Record}
 use Rattle.state.specs.Clock.{counts, later}
 use Rattle.state.specs.Accumulation.{After}
 use Rattle.state.specs.Major.{continues, slotOf, Free}
-use Rattle.state.specs.List.{countsBelow, framesAmong, framesFit, othersFit, slotHolds, slotsHold, majorNow, noneOpen, noSlot, begun, listed, magAmong, rangeFits, rangeKept, wordKept}
+use Rattle.state.specs.List.{countsBelow, framesAmong, framesFit, othersFit, magAmong, slotTest, slotHolds, slotsHold, majorNow, noneOpen, noSlot, begun, listed}
 use Rattle.state.specs.Deciding.{Ready}
 use Rattle.state.specs.declared.State.{State}
 use Rattle.state.specs.declared.accumulation.Accumulation.{Accumulation}
@@ -101,8 +101,8 @@ unfolding slotsHold
 slot-clauses m i e h = upto-true (slotHolds m) 16 e i h
 
 pub mag-among : (m : Major) (i : ℕ) → slotHolds m i ≡ true → bitSet (m .slots) i ≡ false → bitSet (m .«mag_slots») i ≡ false
-unfolding slotHolds
-mag-among m i e h = go (bitSet (m .«mag_slots») i) refl (two (magAmong m i) _ e .0)
+unfolding slotHolds slotTest
+mag-among m i e h = go (bitSet (m .«mag_slots») i) refl (two (magAmong (m .slots) (m .«mag_slots») i) _ e .0)
   where
     go : (t : Bool) → bitSet (m .«mag_slots») i ≡ t → (not t || bitSet (m .slots) i) ≡ true → bitSet (m .«mag_slots») i ≡ false
     go false t _ = t

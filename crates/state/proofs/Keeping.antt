@@ -26,7 +26,7 @@ use Rattle.state.specs.Clock.{counts, unset, later, accepted}
 use Rattle.state.specs.Accumulation.{noAccumulation, joins, unguarded, joined, started, passed, extends, renews, passes, stepAccumulation}
 use Rattle.state.specs.Major.{slotOf, noMajor, continues, into, stays, turns, stepMajor}
 use Rattle.state.specs.List.{fresh, countsBelow, framesAmong, framesFit, othersFit, slotHolds, slotsHold, majorNow, noneOpen, noSlot, begun, listed}
-use Rattle.state.specs.Deciding.{isRealTime, Input, dated, joining, clockHolds, guardHolds, readerRules, numberOf, acceptedAt, acceptance, decidedOf}
+use Rattle.state.specs.Deciding.{isRealTime, Input, dated, joining, stateHolds, clockHolds, guardHolds, readerRules, numberOf, acceptedAt, acceptance, decidedOf}
 use Rattle.state.specs.Ending.{ending, unended, endedOf}
 use Rattle.state.specs.Keeping.{Shaped, Sound, StepKeeps, EndKeeps, Never13}
 use Rattle.state.specs.declared.State.{State}
@@ -64,7 +64,7 @@ none-slots : (c : Clock) → Slots c noMajor
 unfolding slotsHold majorNow noSlot
 none-slots c = record { slots = upto-all (slotHolds noMajor) 16 none-well; current = refl; empty = refl }
 
--- "The fresh state is all 0."
+-- the fresh state passes the list
 pub fresh-sound : Sound fresh
 unfolding begun
 fresh-sound = record { passes = is-listed unset noAccumulation noMajor (none-frames unset (omega arith)) (none-slots unset) refl; shaped = shaped-none }
@@ -148,14 +148,11 @@ step-sound i sound = go (eqb (numberOf i) 0) refl
         subst⁻¹ (λ (x : Decided). Sound (x .stepped .state)) (accepted-is i e) (accepted-sound (i .state) (i .bytes) sound (clock-so i (all-pass i e .later)))
     go false t = subst⁻¹ (λ (x : Decided). Sound (x .stepped .state)) (refused-is i (eqb-false (numberOf i) 0 t)) sound
 
-ended-sound : (s : State) → Sound s → Sound (ending s .finished .state)
+pub ended-listed : (s : State) → Sound s → listed (ending s .finished .state) ≡ true
 unfolding begun
-ended-sound s sound =
+ended-listed s sound =
     let f = facts s (sound .passes) in
-    record {
-      passes = is-listed (s .clock) noAccumulation noMajor (none-frames (s .clock) (last-below s f)) (none-slots (s .clock)) (still-begun (s .clock .any) _ (f .start));
-      shaped = shaped-none;
-    }
+    is-listed (s .clock) noAccumulation noMajor (none-frames (s .clock) (last-below s f)) (none-slots (s .clock)) (still-begun (s .clock .any) _ (f .start))
   where
     still-begun : (a b : Bool) → (a || (eqb (s .clock .last) 0 && b)) ≡ true → (a || (eqb (s .clock .last) 0 && true)) ≡ true
     still-begun true b e = refl
@@ -167,7 +164,7 @@ unfolding endedOf
 end-sound s sized sound = go (sized && listed s)
   where
     go : (t : Bool) → Sound (cond t (ending s) (unended s) .finished .state)
-    go true = ended-sound s sound
+    go true = record { passes = ended-listed s sound; shaped = shaped-none }
     go false = sound
 
 -- a joining frame's type isn't held yet
@@ -190,9 +187,15 @@ fails-13 : (i : Input) → holdsIn readerRules 13 i ≡ false → guardHolds i �
 unfolding holdsIn readerRules rules ofPart
 fails-13 i e = e
 
--- "from a state that passes rule 1 rule 13 can't hit" (02, request 11)
+-- rule 13 can't hit: where it would be asked, rule 1 held (02, request 11)
+holds-1 : (i : Input) → holdsIn readerRules 1 i ≡ true → listed (i .state) ≡ true
+unfolding holdsIn readerRules rules ofPart stateHolds
+holds-1 i e = two (i .sized) (listed (i .state)) e .1
+
 pub never-13 : (i : Input) → Never13 i
-never-13 i p e = true≢false (sym (guard-holds i p) ∙ fails-13 i (exactly i .fails 13 .0 (e, omega arith) .0))
+never-13 i e =
+    let f = exactly i .fails 13 .0 (e, omega arith) in
+    true≢false (sym (guard-holds i (holds-1 i (f .1 1 (omega arith)))) ∙ fails-13 i (f .0))
 
 -- a list of zeros is one
 zeros : (n : ℕ) (xs : List ℕ) → length xs ≡ n → ((i : ℕ) → i < n → getD xs i 0 ≡ 0) → xs ≡ replicate n 0

@@ -15,7 +15,7 @@ use Rattle.tables.proofs.Marks.{highest-marked, marked-own, marked-other, marke
 use Rattle.tables.proofs.Upto.{upto-all}
 use Rattle.state.specs.Clock.{accepted}
 use Rattle.state.specs.Major.{numberOf, slotOf, noMajor, into, Free}
-use Rattle.state.specs.List.{magAmong, rangeFits, rangeKept, wordKept, slotHolds, slotsHold, majorNow, noSlot}
+use Rattle.state.specs.List.{magAmong, rangeFits, rangeKept, wordKept, slotTest, slotHolds, slotsHold, majorNow, noSlot}
 use Rattle.state.specs.Keeping.{Shaped}
 use Rattle.state.specs.declared.clock.Clock.{Clock}
 use Rattle.state.specs.declared.major.Major.{Major}
@@ -38,7 +38,7 @@ pub shaped-none : Shaped noMajor
 shaped-none = record { ranges = refl; words = refl; mags = omega arith }
 
 pub none-well : (i : ℕ) → i < 16 → slotHolds noMajor i ≡ true
-unfolding slotHolds
+unfolding slotHolds slotTest
 none-well i h = rw (bits-above 0 i (pow-pos i), getD-replicate {A = ℕ} 16 i 0 0 h)
 
 pub room-none : (u : ℕ) → Room noMajor u
@@ -53,17 +53,17 @@ room-free m d e z f =
 
 -- the four tests of a slot
 pub record Well (m : Major) (i : ℕ) : Type 0 where
-  pub among : magAmong m i ≡ true
-  pub fits : rangeFits m i ≡ true
-  pub range : rangeKept m i ≡ true
-  pub word : wordKept m i ≡ true
+  pub among : magAmong (m .slots) (m .«mag_slots») i ≡ true
+  pub fits : rangeFits (getD (m .ranges) i 0) ≡ true
+  pub range : rangeKept (m .«mag_slots») (getD (m .ranges) i 0) i ≡ true
+  pub word : wordKept (m .slots) (getD (m .words) i 0) i ≡ true
 
 pub well-facts : (m : Major) (i : ℕ) → slotHolds m i ≡ true → Well m i
-unfolding slotHolds
+unfolding slotHolds slotTest
 well-facts m i e =
-    let a = two (magAmong m i) _ e in
-    let b = two (rangeFits m i) _ (a .1) in
-    let c = two (rangeKept m i) _ (b .1) in
+    let a = two (magAmong (m .slots) (m .«mag_slots») i) _ e in
+    let b = two (rangeFits (getD (m .ranges) i 0)) _ (a .1) in
+    let c = two (rangeKept (m .«mag_slots») (getD (m .ranges) i 0) i) _ (b .1) in
     record { among = a .0; fits = b .0; range = c .0; word = c .1 }
 
 module _ (m : Major) (d : ℕ) (t : Room m (slotOf d)) (g w : ℕ) (hg : g ≤ 7) where
@@ -71,7 +71,7 @@ module _ (m : Major) (d : ℕ) (t : Room m (slotOf d)) (g w : ℕ) (hg : g ≤ 7
   small = omega arith
 
   slot-here : (real : Bool) → slotHolds (into m d real g w) (slotOf d) ≡ true
-  unfolding slotHolds into
+  unfolding slotHolds slotTest into
   slot-here true =
       let len : slotOf d < length (m .ranges) = omega (arith, t .shaped .ranges) in
       rw (getD-set-same (m .ranges) (slotOf d) g 0 len, le-leb g 7 hg, marked-own (m .«mag_slots») (slotOf d) (t .mags), marked-own (m .slots) (slotOf d) (t .slots))
@@ -82,7 +82,7 @@ module _ (m : Major) (d : ℕ) (t : Room m (slotOf d)) (g w : ℕ) (hg : g ≤ 7
       rw (f .fits, q, z, marked-own (m .slots) (slotOf d) (t .slots))
 
   slot-there : (real : Bool) (i : ℕ) → i < 16 → (i ≡ slotOf d → ⊥) → slotHolds (into m d real g w) i ≡ true
-  unfolding slotHolds into
+  unfolding slotHolds slotTest into
   slot-there true i h n =
       rw (getD-set-other (m .ranges) (slotOf d) i g 0 n, getD-set-other (m .words) (slotOf d) i w 0 n, marked-other (m .«mag_slots») (slotOf d) i (t .mags) n, marked-other (m .slots) (slotOf d) i (t .slots) n) (t .well i h)
   slot-there false i h n =

@@ -1,4 +1,4 @@
--- One outcome: any two that a promise allows are equal. `listed`, `arrival_of`, `no_major` and `fresh` promise an equation (`one` of
+-- One outcome: any two that a promise allows are equal. `listed`, `no_major` and `fresh` promise an equation (`one` of
 -- tables/Single).
 -- Assumes nothing.
 use mathlib.Core.Path.{_≡_}

@@ -1,7 +1,7 @@
 -- What the number of a decision says of it.
 -- Assumes nothing.
 use mathlib.Core.Path.{_≡_, refl, sym, ap, _∙_}
-use mathlib.Core.Bool.{Bool, true, false, cond, _&&_, true≢false, false≢true}
+use mathlib.Core.Bool.{Bool, true, false, not, cond, _&&_, true≢false, false≢true}
 use mathlib.Core.List.{List}
 use Prim.Native.Nat.{ℕ, _<_}
 use native.Mathlib.Omega.{arith}
@@ -17,7 +17,7 @@ use Rattle.record.proofs.Opened as opened
 use Rattle.mag.specs.Samples.{range}
 use Rattle.tables.proofs.Conds.{cond-of}
 use Rattle.state.specs.Accumulation.{joins, passes, extends, renews, stepAccumulation}
-use Rattle.state.specs.Major.{continues, stepMajor}
+use Rattle.state.specs.Major.{continues, stays, turns, stepMajor}
 use Rattle.state.specs.List.{listed}
 use Rattle.state.specs.Deciding.{isRealTime, Input, dated, stateHolds, clockHolds, guardHolds, numberOf, refusal, acceptedAt, acceptance, decidedOf}
 use Rattle.state.specs.declared.deciding.Decided.{Decided}
@@ -114,3 +114,12 @@ module _ (i : Input) where
       go true true = refl
       go true false = refl
       go false b = refl
+
+  -- the samples are cleared by the first slot of a major frame
+  pub samples-first : numberOf i ≡ 0 → decidedOf i .samples .clears ≡ not (continues (i .state .major) (dated i))
+  unfolding acceptedAt stepMajor
+  samples-first e = ap (λ (x : Decided). x .samples .clears) (accepted-is i e) ∙ go (continues (i .state .major) (dated i))
+    where
+      go : (t : Bool) → cond t (stays (i .state .major) (dated i) (isRealTime (recordOf (i .bytes) .kind)) (range (magBytes (packetBytes (i .bytes)))) (recordOf (i .bytes) .subcom)) (turns (i .state .major) (dated i) (isRealTime (recordOf (i .bytes) .kind)) (range (magBytes (packetBytes (i .bytes)))) (recordOf (i .bytes) .subcom)) .work .clears ≡ not t
+      go true = refl
+      go false = refl

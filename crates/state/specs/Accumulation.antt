@@ -8,6 +8,7 @@ use Rattle.tables.specs.Marks.{bitSet, marked}
 use Rattle.state.specs.declared.accumulation.Accumulation.{Accumulation}
 use Rattle.state.specs.declared.accumulation.AccumulationReport.{AccumulationReport}
 use Rattle.state.specs.declared.accumulation.AccumulationStep.{AccumulationStep}
+use Rattle.state.specs.declared.accumulation.Gap.{Gap}
 use Rattle.state.specs.declared.accumulation.Gap.the-variants.{Opens, Joins, Neither}
 
 -- "An open accumulation holds at least one frame"
@@ -18,7 +19,8 @@ isOpen a = not (eqb (a .held) 0)
 abbrev pub noAccumulation : Accumulation
 noAccumulation = record { first = 0; held = 0; «last_type» = 0; «last_count» = 0; others = 0 }
 
--- "Let g be the counts strictly between c and d that were not accepted: d - c - 1 less the accepted "other" frames between."
+-- "Let g be the counts strictly between c and d that were not accepted: d - c - 1 less the accepted "other" frames between." Once
+-- rules 1 and 12 hold no difference is cut off at 0 (`is-after` in proofs/Facts.antt)
 abbrev pub gap : Accumulation → ℕ → ℕ
 gap a d = d - a .«last_count» - 1 - a .others
 
@@ -79,6 +81,17 @@ renews a u d = record { gap = Opens; next = started u d; report = reported a; wo
 unfoldable pub stepAccumulation : Accumulation → Bool → Bool → ℕ → ℕ → AccumulationStep
 stepAccumulation a real joining u d = cond real (cond joining (extends a u d) (renews a u d)) (passes a)
 
--- count d lies after the last real-time frame of an open accumulation and the other frames since
+-- what a gap decision means for the open cells: they are set to 0 by a frame that opens, and one that opens or joins is laid in
+unfoldable pub clearsFor : Gap → Bool
+clearsFor Opens = true
+clearsFor Joins = false
+clearsFor Neither = false
+
+unfoldable pub laysFor : Gap → Bool
+laysFor Opens = true
+laysFor Joins = true
+laysFor Neither = false
+
+-- What the code of private functions asks: count d lies after the last real-time frame of an open accumulation and the other frames since
 abbrev pub After : Accumulation → ℕ → Type 0
 After a d = (a .held ≡ 0 → ⊥) → a .«last_count» + a .others < d

@@ -1,5 +1,5 @@
 -- What is said of the state list (01, "Numbers a refused record gets"): the fresh state passes it, and so does every state that is
--- handed back from one that passes; from those rule 13 can't hit.
+-- handed back from one that passes; rule 13 can't hit.
 -- Assumes nothing.
 use Prim.Native.Nat.{ℕ, _^_, _<_}
 use mathlib.Core.Bool.{Bool, true}
@@ -11,7 +11,7 @@ use Rattle.state.specs.Ending.{endedOf}
 use Rattle.state.specs.declared.State.{State}
 use Rattle.state.specs.declared.major.Major.{Major}
 
--- what the types of a major frame say: 16 ranges, 16 subcom words, marks in 16 bits
+-- what the types of a major frame say: 16 ranges, 16 subcom words, MAG marks in 16 bits
 pub record Shaped (m : Major) : Type 0 where
   pub ranges : length (m .ranges) ≡ 16
   pub words : length (m .words) ≡ 16
@@ -29,4 +29,4 @@ abbrev pub EndKeeps : State → Bool → Type 0
 EndKeeps s sized = Sound s → Sound (endedOf s sized .finished .state)
 
 abbrev pub Never13 : Input → Type 0
-Never13 i = listed (i .state) ≡ true → numberOf i ≡ 13 → ⊥
+Never13 i = numberOf i ≡ 13 → ⊥

@@ -36,23 +36,26 @@ unfoldable pub othersFit : Clock → Accumulation → Bool
 othersFit c a = leb (a .«last_count» + a .others) (c .last)
 
 -- "MAG slots among the slots"
-abbrev pub magAmong : Major → ℕ → Bool
-magAmong m i = not (bitSet (m .«mag_slots») i) || bitSet (m .slots) i
+abbrev pub magAmong : ℕ → ℕ → ℕ → Bool
+magAmong slots mags i = not (bitSet mags i) || bitSet slots i
 
 -- "Ranges are 0 to 7"
-abbrev pub rangeFits : Major → ℕ → Bool
-rangeFits m i = leb (getD (m .ranges) i 0) 7
+abbrev pub rangeFits : ℕ → Bool
+rangeFits range = leb range 7
 
 -- "ranges of MAG slots not held and subcom words of slots not held are 0"
-abbrev pub rangeKept : Major → ℕ → Bool
-rangeKept m i = bitSet (m .«mag_slots») i || eqb (getD (m .ranges) i 0) 0
+abbrev pub rangeKept : ℕ → ℕ → ℕ → Bool
+rangeKept mags range i = bitSet mags i || eqb range 0
 
-abbrev pub wordKept : Major → ℕ → Bool
-wordKept m i = bitSet (m .slots) i || eqb (getD (m .words) i 0) 0
+abbrev pub wordKept : ℕ → ℕ → ℕ → Bool
+wordKept slots word i = bitSet slots i || eqb word 0
 
--- these four of each slot
+-- these four of slot i, with its range and its word
+unfoldable pub slotTest : ℕ → ℕ → ℕ → ℕ → ℕ → Bool
+slotTest slots mags range word i = magAmong slots mags i && (rangeFits range && (rangeKept mags range i && wordKept slots word i))
+
 unfoldable pub slotHolds : Major → ℕ → Bool
-slotHolds m i = magAmong m i && (rangeFits m i && (rangeKept m i && wordKept m i))
+slotHolds m i = slotTest (m .slots) (m .«mag_slots») (getD (m .ranges) i 0) (getD (m .words) i 0) i
 
 unfoldable pub slotsHold : Major → Bool
 slotsHold m = upto (slotHolds m) 16

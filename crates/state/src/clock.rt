@@ -17,7 +17,7 @@ pub enum Arrival {
     NotLater,
 }
 
-pub fn arrival_of(clock: Clock, count: u32) -> Arrival
+pub(crate) fn arrival_of(clock: Clock, count: u32) -> Arrival
     ensures { λ a. ⌜ a ≡ arrivalOf clock count ⌝ }
 {
     let d = count as u64;

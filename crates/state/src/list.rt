@@ -2,7 +2,7 @@
 ghost use mathlib.Core.Path.{_≡_};
 ghost use Prim.Native.Nat.{_<_};
 ghost use Rattle.state.specs.Clock.{counts};
-ghost use Rattle.state.specs.List.{countsBelow, framesAmong, framesFit, othersFit, slotHolds, slotsHold, majorNow, noneOpen, noSlot, begun, listed};
+ghost use Rattle.state.specs.List.{countsBelow, framesAmong, framesFit, othersFit, slotTest, slotsHold, majorNow, noneOpen, noSlot, begun, listed};
 use crate::State;
 use crate::accumulation::Accumulation;
 use crate::clock::COUNTS;
@@ -59,17 +59,16 @@ fn others_fit(clock: Clock, a: Accumulation) -> bool
     a.others <= clock.last - a.last_count
 }
 
-// Slot i, below 16: its two marks, its range, its word.
-fn slot_holds(m: Major, i: usize) -> bool
+// Slot i, below 16: its two marks, its range, its word. (It is handed these and not the frame, which would be copied.)
+fn slot_holds(slots: u16, mag_slots: u16, range: u8, word: u16, i: usize) -> bool
     requires { ⌜ i < 16 ⌝ }
-    ensures { λ b. ⌜ b ≡ slotHolds m i ⌝ }
+    ensures { λ b. ⌜ b ≡ slotTest slots «mag_slots» range word i ⌝ }
 {
-    let held = (m.slots >> i) % 2 == 1;
-    let range = m.ranges[i];
+    let held = (slots >> i) % 2 == 1;
     if 7 < range {
         return false;
     }
-    if (m.mag_slots >> i) % 2 == 1 {
+    if (mag_slots >> i) % 2 == 1 {
         return held;
     }
     if range != 0 {
@@ -78,7 +77,7 @@ fn slot_holds(m: Major, i: usize) -> bool
     if held {
         return true;
     }
-    m.words[i] == 0
+    word == 0
 }
 
 fn slots_hold(m: Major) -> bool
@@ -86,7 +85,7 @@ fn slots_hold(m: Major) -> bool
 {
     let mut i = 0;
     while i < 16 {
-        if !slot_holds(m, i) {
+        if !slot_holds(m.slots, m.mag_slots, m.ranges[i], m.words[i], i) {
             return false;
         }
         i += 1;

@@ -11,6 +11,6 @@ bitSet n k = eqb (n / 2 ^ k % 2) 1
 unfoldable pub highest : ℕ → ℕ → Bool
 highest n k = eqb (n / 2 ^ k) 1
 
--- the mark of k set beside the others
+-- the mark of k, not set so far, set beside the others
 unfoldable pub marked : ℕ → ℕ → ℕ
 marked n k = n + 2 ^ k

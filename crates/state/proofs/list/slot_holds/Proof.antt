@@ -1,8 +1,6 @@
 -- `state::list::slot_holds` meets its contract.
 -- Assumes nothing.
-use borrow.Author.Tests.{eq-eqb, ne-eqb, le-leb, lt-leb, lt-ltb, le-ltb}
-use mathlib.Core.Bool.{true, false}
-use Rattle.state.specs.List.{slotHolds}
+use borrow.Author.Tests.{eq-eqb, ne-eqb}
 use Rattle.state.proofs.Clauses.{range-above, mag-held, range-left, slot-held, slot-free}
 use native.Mathlib.Omega.{arith}
 use borrow.Author.Needs.{needs}
@@ -15,11 +13,8 @@ cast-held c = search needs
 shr-held : tie.Need-shr-held
 shr-held c = search needs
 
-element-copy-out-range : tie.Need-element-copy-out-range
-element-copy-out-range c = search needs
-
 returns : tie.Need-returns
-returns c = range-above (c .before .before .args .t1) (c .before .before .args .i) (omega arith)
+returns c = let a = c .before .args in range-above (a .slots) (a .mag-slots) (a .range) (a .word) (a .i) (omega arith)
 
 cast-if2 : tie.Need-cast-if2
 cast-if2 c = search needs
@@ -28,36 +23,18 @@ shr-if2 : tie.Need-shr-if2
 shr-if2 c = search needs
 
 returns-2 : tie.Need-returns-2
-returns-2 c = mag-held (c .before .before .before .args .t1) (c .before .before .before .args .i) (omega arith) (eq-eqb _ 1 (c .if2 .taken))
+returns-2 c = let a = c .before .before .args in mag-held (a .slots) (a .mag-slots) (a .range) (a .word) (a .i) (omega arith) (eq-eqb _ 1 (c .if2 .taken))
 
 returns-3 : tie.Need-returns-3
-returns-3 c = range-left (c .before .before .before .before .args .t1) (c .before .before .before .before .args .i) (omega arith) (ne-eqb _ 1 (c .before .if2 .left)) (c .if3 .taken)
+returns-3 c = let a = c .before .before .before .args in range-left (a .slots) (a .mag-slots) (a .range) (a .word) (a .i) (omega arith) (ne-eqb _ 1 (c .before .if2 .left)) (c .if3 .taken)
 
 returns-4 : tie.Need-returns-4
-returns-4 c = slot-held (c .before .before .before .before .before .args .t1) (c .before .before .before .before .before .args .i) (omega arith) (ne-eqb _ 1 (c .before .before .if2 .left)) (c .before .if3 .left) (c .if4 .taken)
-
-mul-result : tie.Need-mul-result
-mul-result c = search needs
-
-element-copy-out-result : tie.Need-element-copy-out-result
-element-copy-out-result c = search needs
+returns-4 c = let a = c .before .before .before .before .args in slot-held (a .slots) (a .mag-slots) (a .range) (a .word) (a .i) (omega arith) (ne-eqb _ 1 (c .before .before .if2 .left)) (c .before .if3 .left) (c .if4 .taken)
 
 returns-5 : tie.Need-returns-5
-returns-5 c = slot-free (c .before .before .before .before .before .before .args .t1) (c .before .before .before .before .before .before .args .i) (omega arith) (ne-eqb _ 1 (c .before .before .before .if2 .left)) (c .before .before .if3 .left) (c .before .if4 .left)
+returns-5 c = let a = c .before .before .before .before .args in slot-free (a .slots) (a .mag-slots) (a .range) (a .word) (a .i) (omega arith) (ne-eqb _ 1 (c .before .before .if2 .left)) (c .before .if3 .left) (c .if4 .left)
 
 pub slot-holds-spec : {M : Type 1} → statement M
 slot-holds-spec =
     tie.close
-    (tie.spec
-    cast-held
-    shr-held
-    element-copy-out-range
-    returns
-    cast-if2
-    shr-if2
-    returns-2
-    returns-3
-    returns-4
-    mul-result
-    element-copy-out-result
-    returns-5)
+    (tie.spec cast-held shr-held returns cast-if2 shr-if2 returns-2 returns-3 returns-4 returns-5)

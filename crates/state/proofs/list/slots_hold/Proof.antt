@@ -1,12 +1,12 @@
 -- `state::list::slots_hold` meets its contract. The loop has tested the first i slots.
 -- Assumes nothing.
 use mathlib.Core.Path.{_≡_, refl, sym, _∙_}
-use mathlib.Core.Bool.{true, false}
+use mathlib.Core.Bool.{true}
 use Prim.Native.Nat.{_≤_, _-_}
 use Rattle.tables.specs.Upto.{upto}
 use Rattle.tables.proofs.Upto.{upto-false}
 use Rattle.state.specs.List.{slotHolds, slotsHold}
-use Rattle.state.proofs.Clauses.{not-true, not-false, one-more, sixteen}
+use Rattle.state.proofs.Clauses.{held, fails, one-more, sixteen}
 use native.Mathlib.Omega.{arith}
 use borrow.Author.Needs.{needs}
 use Rattle.state.proofs.list.slots_hold.Statement.{statement}
@@ -21,12 +21,21 @@ abbrev μ-loop : tie.MeasureT-loop
 loop-holds : tie.Need-loop-holds Inv-loop μ-loop
 loop-holds c = (omega arith, refl)
 
+element-copy-out-slot-holds : tie.Need-element-copy-out-slot-holds Inv-loop μ-loop
+element-copy-out-slot-holds c = search needs
+
+mul-slot-holds : tie.Need-mul-slot-holds Inv-loop μ-loop
+mul-slot-holds c = search needs
+
+element-copy-out-slot-holds-2 : tie.Need-element-copy-out-slot-holds-2 Inv-loop μ-loop
+element-copy-out-slot-holds-2 c = search needs
+
 slot-holds-requires : tie.Need-slot-holds-requires Inv-loop μ-loop
 slot-holds-requires c κs = search needs
 
 returns : tie.Need-returns Inv-loop μ-loop
-unfolding slotsHold
-returns c = let l = c .before .before .before in sym (upto-false (slotHolds (l .before .args .m)) 16 (l .loop .i) (omega arith) (sym (c .before .slot-holds .ensures) ∙ not-true _ (c .if1 .taken)))
+unfolding slotsHold slotHolds
+returns c = let l = c .before .before .before .before .before in sym (upto-false (slotHolds (l .before .args .t1)) 16 (l .loop .i) (omega arith) (fails (c .before .slot-holds .ensures) (c .if1 .taken)))
 
 add-i : tie.Need-add-i Inv-loop μ-loop
 add-i c = search needs
@@ -35,11 +44,12 @@ loop-less : tie.Need-loop-less Inv-loop μ-loop
 loop-less c = search needs
 
 loop-again : tie.Need-loop-again Inv-loop μ-loop
-loop-again c = let l = c .before .before .before in (search needs, one-more (slotHolds (l .before .args .m)) (l .loop .i) (sym (c .before .slot-holds .ensures) ∙ not-false _ (c .if1 .left)) (l .loop .inv .1))
+unfolding slotHolds
+loop-again c = let l = c .before .before .before .before .before in (search needs, one-more (slotHolds (l .before .args .t1)) (l .loop .i) (held (c .before .slot-holds .ensures) (c .if1 .left)) (l .loop .inv .1))
 
 returns-2 : tie.Need-returns-2 Inv-loop μ-loop
 unfolding slotsHold
-returns-2 c = let l = c .before in sixteen (slotHolds (l .before .args .m)) (l .loop .i) (omega arith) (l .loop .inv .1)
+returns-2 c = let l = c .before in sixteen (slotHolds (l .before .args .t1)) (l .loop .i) (omega arith) (l .loop .inv .1)
 
 pub slots-hold-spec : {M : Type 1} → statement M
 slots-hold-spec =
@@ -48,6 +58,9 @@ slots-hold-spec =
     Inv-loop
     μ-loop
     loop-holds
+    element-copy-out-slot-holds
+    mul-slot-holds
+    element-copy-out-slot-holds-2
     slot-holds-requires
     returns
     add-i

@@ -1,0 +1,220 @@
+/* The reader on records in any order of types and counts: the printed examples,
+ * both edges of the joining rule, and streams of anything. */
+#include "reader.h"
+
+#include "electrons.h"
+
+#include <system.h>
+
+static const struct state fresh;
+
+/* ---- the printed examples --------------------------------------------- */
+
+/* Steps with a good record; answers what became of its frame. */
+static uint8_t step_with(struct drive *drive, struct reader *reader, uint64_t count, uint8_t type)
+{
+    struct input input;
+    input_make(&drive->random, &input, count, type);
+    compare_step(drive, reader, &input, 0);
+    return reader_report(reader)[FATE_AT];
+}
+
+static void expect_fate(struct drive *drive, uint64_t count, uint8_t type, uint8_t fate, uint8_t expected)
+{
+    struct question question = {STEP, NULL, 0, {{"count", count}, {"type", type}}};
+    expect_answer(drive, &question, fate, expected);
+}
+
+/* Type 5 at count 100, so many other frames right after it, and one frame more. */
+static void compare_after_type_5(struct drive *drive, unsigned others, uint64_t count, uint8_t type,
+                                 uint8_t expected)
+{
+    static struct reader reader;
+    reader_make(&drive->random, &reader, &fresh);
+    step_with(drive, &reader, 100, 5);
+    for (unsigned i = 0; i < others; i++)
+        step_with(drive, &reader, 101 + i, other_type(&drive->random));
+    expect_fate(drive, count, type, step_with(drive, &reader, count, type), expected);
+}
+
+/* 01, "Sixteen examples to be proved" and "Mistakes the old reader made". */
+static void compare_joining_examples(struct drive *drive)
+{
+    begin(drive, "the printed examples of joining");
+    compare_after_type_5(drive, 0, 101, 6, LPMAG_JOINS);
+    compare_after_type_5(drive, 0, 136, 6, LPMAG_JOINS);
+    compare_after_type_5(drive, 0, 137, 6, LPMAG_OPENS);
+    compare_after_type_5(drive, 0, 101, 8, LPMAG_OPENS);
+    compare_after_type_5(drive, 0, 147, 6, LPMAG_OPENS);  /* a dropout of 46 counts */
+    compare_after_type_5(drive, 46, 147, 6, LPMAG_JOINS); /* the same counts filled */
+}
+
+/* The numbers of a line of the listing. */
+static void expect_closed(struct drive *drive, const uint8_t *closed, uint64_t major, uint64_t first)
+{
+    struct question question = {STEP, NULL, 0, {{NULL, 0}}};
+    struct major frame = get_major(closed + MAJOR_AT);
+    expect_answer(drive, &question, closed[MAJOR_CLOSED] & closed[CELLS_CLOSED], 1);
+    expect_answer(drive, &question, 16 * frame.number, major);
+    expect_answer(drive, &question, ones(frame.slots), 1);
+    expect_answer(drive, &question, 54 * ones(frame.mag), 54);
+    expect_answer(drive, &question, get_number(closed + FIRST_AT), first);
+    expect_answer(drive, &question, 83 * ones(get_number(closed + HELD_AT)), 83);
+}
+
+/* 01, "The listing, whole": counts 32 and 48, both type 0. */
+static void compare_listing_example(struct drive *drive)
+{
+    static struct reader reader;
+    begin(drive, "the printed example of the listing");
+    reader_make(&drive->random, &reader, &fresh);
+    step_with(drive, &reader, 32, 0);
+    step_with(drive, &reader, 48, 0);
+    expect_closed(drive, reader_report(&reader) + CLOSED_AT, 32, 32);
+    compare_finish(drive, &reader, 0);
+    expect_closed(drive, reader_report(&reader), 48, 48);
+}
+
+/* ---- the edges of the joining rule ------------------------------------ */
+
+/* A frame of type t, then one of type u with g counts not accepted between them
+ * and so many other frames anywhere among these. */
+static void compare_gap(struct drive *drive, uint8_t t, uint8_t u, uint32_t g, uint32_t others,
+                        uint8_t expected)
+{
+    static struct reader reader;
+    uint32_t between = g + others;
+    uint32_t last = (uint32_t)COUNTS - 2 - between; /* for which u has the largest count */
+    uint64_t count = random_once_in(&drive->random, 4)   ? last
+                     : random_once_in(&drive->random, 4) ? 0
+                                                         : random_between(&drive->random, 0, last);
+    reader_make(&drive->random, &reader, &fresh);
+    step_with(drive, &reader, count, t);
+    for (; between > 0; between--) {
+        count++;
+        if (random_below(&drive->random, between) < others) {
+            step_with(drive, &reader, count, other_type(&drive->random));
+            others--;
+        }
+    }
+    expect_fate(drive, count + 1, u, step_with(drive, &reader, count + 1, u), expected);
+    compare_finish(drive, &reader, 0);
+}
+
+static void compare_gaps(struct drive *drive)
+{
+    static const uint32_t others[] = {0, 1, 2, 40};
+    enum { OTHERS = sizeof others / sizeof others[0] };
+    begin(drive, "every two types at both edges of the joining rule, other frames between them or none");
+    for (uint8_t t = 0; t < TYPES; t++)
+        for (uint8_t u = 0; u < TYPES; u++)
+            for (size_t i = 0; i < OTHERS; i++) {
+                if (u <= t) { /* at the edges of the next such type, and with none lost */
+                    uint32_t next = 36u + u - t;
+                    const uint32_t gaps[] = {0, next - 1, 34 + next, random_below(&drive->random, 80)};
+                    for (size_t j = 0; j < 4; j++)
+                        compare_gap(drive, t, u, gaps[j], others[i], LPMAG_OPENS);
+                    continue;
+                }
+                uint32_t rise = (uint32_t)u - t;
+                if (rise >= 2)
+                    compare_gap(drive, t, u, rise - 2, others[i], LPMAG_OPENS);
+                compare_gap(drive, t, u, rise - 1, others[i], LPMAG_JOINS);
+                compare_gap(drive, t, u, 34 + rise, others[i], LPMAG_JOINS);
+                compare_gap(drive, t, u, 35 + rise, others[i], LPMAG_OPENS);
+            }
+}
+
+/* ---- streams of anything ---------------------------------------------- */
+
+/* How far the next count is ahead: mostly by one, often near what tears an
+ * accumulation, and now and then far. */
+static uint64_t ahead(struct random *random)
+{
+    switch (random_below(random, 16)) {
+    case 0:
+        return random_between(random, 30, 40);
+    case 1:
+        return random_between(random, 60, 75);
+    case 2:
+        return random_between(random, 1, 300);
+    case 3:
+        return random_between(random, 2, 5);
+    default:
+        return 1;
+    }
+}
+
+/* Mostly a type above the last. */
+static uint8_t any_type(struct random *random, uint8_t last)
+{
+    switch (random_below(random, 8)) {
+    case 0:
+    case 1:
+        return other_type(random);
+    case 2:
+        return (uint8_t)random_below(random, TYPES);
+    default:
+        return (uint8_t)((last + (random_once_in(random, 4) ? random_below(random, 6) : 1)) % TYPES);
+    }
+}
+
+/* Where a stream starts, so that it stays below 2^24 or runs against it. */
+static uint64_t first_count(struct random *random)
+{
+    switch (random_below(random, 4)) {
+    case 0:
+        return 0;
+    case 1:
+        return COUNTS - 1 - random_below(random, 3000);
+    default:
+        return random_below(random, (uint32_t)COUNTS);
+    }
+}
+
+static void compare_stream(struct drive *drive)
+{
+    static struct reader reader;
+    struct random *random = &drive->random;
+    struct input input;
+    uint64_t count = first_count(random);
+    reader_make(random, &reader, &fresh);
+    if (random_once_in(random, 8))
+        compare_finish(drive, &reader, 0);
+    for (unsigned i = 0; i < 400 && count < COUNTS; i++) {
+        uint8_t type = any_type(random, reader.state.accumulation.type);
+        if (reader.state.accepted && random_once_in(random, 16)) {
+            uint32_t last = (uint32_t)reader.state.last;
+            uint32_t before = random_once_in(random, 2) ? last : random_between(random, 0, last);
+            input_make(random, &input, before, type);
+            compare_step(drive, &reader, &input, 12);
+            continue;
+        }
+        input_make(random, &input, count, type);
+        if (random_once_in(random, 16)) {
+            unsigned rule = random_between(random, GENERATE_FIRST_RULE, GENERATE_LAST_RULE);
+            input_spoil(random, &input, rule);
+            compare_step(drive, &reader, &input, (uint8_t)rule);
+            continue;
+        }
+        compare_step(drive, &reader, &input, 0);
+        count += ahead(random);
+        if (random_once_in(random, 100)) {
+            compare_finish(drive, &reader, 0);
+            if (random_once_in(random, 4))
+                compare_finish(drive, &reader, 0);
+        }
+    }
+    compare_finish(drive, &reader, 0);
+    compare_finish(drive, &reader, 0);
+}
+
+void drive_reader(struct drive *drive)
+{
+    compare_joining_examples(drive);
+    compare_listing_example(drive);
+    compare_gaps(drive);
+    begin(drive, "streams of any types, with counts left out, repeated and falling, and finish anywhere");
+    for (unsigned i = 0; i < 600; i++)
+        compare_stream(drive);
+}

@@ -1,0 +1,228 @@
+/* What the reader refuses: sizes that are wrong, records that break a rule, and
+ * several at once, of which the first in 01's order is given. */
+#include "states.h"
+
+#include "electrons.h"
+
+#include <system.h>
+
+/* A state that a record can follow: it isn't at the last count. */
+static struct state any_state_with_a_next(struct random *random)
+{
+    struct state state;
+    do
+        state = any_state(random, random_once_in(random, 2), random_once_in(random, 2));
+    while (state.last == COUNTS - 1);
+    return state;
+}
+
+/* ---- sizes ------------------------------------------------------------ */
+
+/* Elements: bytes, or numbers of the samples. */
+static const size_t right_sizes[2][SIZED] = {
+    {LPMAG_STATE, LPMAG_CELLS, LPMAG_CELLS, LPMAG_FRAME, LPMAG_FRAME, LPMAG_REPORT},
+    {LPMAG_STATE, LPMAG_CELLS, LPMAG_CELLS, LPMAG_FRAME, LPMAG_FRAME, LPMAG_CLOSED},
+};
+
+enum { WRONG_SIZES = 10 };
+static size_t wrong_size(struct random *random, size_t right, unsigned form)
+{
+    const size_t sizes[WRONG_SIZES] = {
+        0,
+        1,
+        right - 1,
+        right + 1,
+        right / 2,
+        right - 16,
+        right + 16,
+        right + 64,
+        right < 256 ? right + 256 : right - 256, /* the same in eight bits */
+        random_below(random, (uint32_t)right),
+    };
+    return sizes[form];
+}
+
+static void set_size(struct random *random, struct reader *reader, enum sized room, size_t size)
+{
+    uint8_t bytes[LPMAG_STATE];
+    switch (room) {
+    case REPORT:
+        reader->report_length = reader->closed_length = size;
+        break;
+    case OPEN_SAMPLES:
+    case FINISHED_SAMPLES:
+        rooms_make(&reader->rooms[room], random, size * sizeof(int16_t));
+        break;
+    case STATE: /* what there is of it is right */
+        rooms_make(&reader->rooms[room], random, size);
+        put_state(&reader->state, bytes);
+        rooms_put(&reader->rooms[room], bytes, size < sizeof bytes ? size : sizeof bytes);
+        break;
+    default:
+        rooms_make(&reader->rooms[room], random, size);
+    }
+}
+
+/* With a good record, or one that is to be refused for another reason too. */
+static void compare_size(struct drive *drive, bool finish, enum sized room, unsigned form)
+{
+    static struct reader reader;
+    struct random *random = &drive->random;
+    struct state state = any_state_with_a_next(random);
+    struct input input;
+    reader_make(random, &reader, &state);
+    set_size(random, &reader, room, wrong_size(random, right_sizes[finish][room], form));
+    input_make(random, &input, state.last + 1, (uint8_t)random_below(random, TYPES));
+    if (finish) {
+        compare_finish(drive, &reader, 1);
+    } else {
+        compare_step(drive, &reader, &input, 1);
+        input_spoil(random, &input, random_between(random, GENERATE_FIRST_RULE, GENERATE_LAST_RULE));
+        compare_step(drive, &reader, &input, 1);
+    }
+    drive->wrong_sizes[finish][room]++;
+}
+
+static void compare_sizes(struct drive *drive)
+{
+    begin(drive, "the state, the report and each buffer of a wrong size");
+    for (enum sized room = 0; room < SIZED; room++)
+        for (unsigned form = 0; form < WRONG_SIZES; form++)
+            for (unsigned i = 0; i < 40; i++) {
+                compare_size(drive, false, room, form);
+                compare_size(drive, true, room, form);
+            }
+}
+
+/* One has another's size, or the room for the report that of the other function. */
+static void compare_sizes_exchanged(struct drive *drive)
+{
+    static struct reader reader;
+    struct random *random = &drive->random;
+    struct input input;
+    begin(drive, "sizes that belong to another");
+    for (unsigned i = 0; i < 200; i++) {
+        struct state state = any_state_with_a_next(random);
+        input_make(random, &input, state.last + 1, (uint8_t)random_below(random, TYPES));
+        for (enum sized room = 0; room < SIZED; room++)
+            for (enum sized other = 0; other < SIZED; other++) {
+                size_t size = right_sizes[random_below(random, 2)][other];
+                bool right = size == right_sizes[false][room] || size == right_sizes[true][room];
+                if (right || size * sizeof(int16_t) > LEND_ROOM)
+                    continue;
+                reader_make(random, &reader, &state);
+                set_size(random, &reader, room, size);
+                compare_step(drive, &reader, &input, 1);
+                compare_finish(drive, &reader, 1);
+            }
+        reader_make(random, &reader, &state);
+        reader.report_length = LPMAG_CLOSED;
+        reader.closed_length = LPMAG_REPORT;
+        compare_step(drive, &reader, &input, 1);
+        compare_finish(drive, &reader, 1);
+    }
+}
+
+/* ---- records ---------------------------------------------------------- */
+
+static void compare_one_rule_broken(struct drive *drive)
+{
+    static struct reader reader;
+    struct random *random = &drive->random;
+    struct input input;
+    begin(drive, "the reader on records that break one rule, in each form");
+    for (unsigned rule = GENERATE_FIRST_RULE; rule <= GENERATE_LAST_RULE; rule++)
+        for (uint32_t form = 0; form < spoil_forms(rule); form++)
+            for (unsigned i = 0; i < 100; i++) {
+                struct state state = any_state_with_a_next(random);
+                reader_make(random, &reader, &state);
+                input_make(random, &input, state.last + 1, (uint8_t)random_below(random, TYPES));
+                size_t length = spoil_form(random, input.record, rule, form);
+                input.length = length;
+                compare_step(drive, &reader, &input, (uint8_t)rule);
+            }
+}
+
+static void compare_any_record(struct drive *drive)
+{
+    static struct reader reader;
+    struct random *random = &drive->random;
+    struct input input;
+    begin(drive, "the reader on records of every length, and on random bytes");
+    for (size_t length = 0; length <= GENERATE_LONGEST; length++) {
+        struct state state = any_state_with_a_next(random);
+        reader_make(random, &reader, &state);
+        random_fill(random, input.record, sizeof input.record);
+        input_make(random, &input, state.last + 1, (uint8_t)random_below(random, TYPES));
+        input.length = length;
+        compare_step(drive, &reader, &input, length == LPMAG_RECORD ? 0 : 2);
+        random_fill(random, input.record, sizeof input.record);
+        input.record[0] |= 1; /* the sync's first byte is even */
+        compare_step(drive, &reader, &input, length == LPMAG_RECORD ? 3 : 2);
+    }
+}
+
+/* ---- several at once -------------------------------------------------- */
+
+/* Breaks rule 1: a clause of the state's list, or a size, or both. */
+static void break_rule_1(struct random *random, struct reader *reader)
+{
+    enum clause clause = (enum clause)random_below(random, CLAUSES);
+    bool state = random_once_in(random, 2);
+    if (state && break_forms(clause) > 0) {
+        struct state broken = broken_state(random, clause, random_below(random, break_forms(clause)));
+        reader_set(reader, &broken);
+    }
+    if (!state || break_forms(clause) == 0 || random_once_in(random, 4)) {
+        enum sized room = (enum sized)random_below(random, SIZED);
+        set_size(random, reader, room,
+                 wrong_size(random, right_sizes[false][room], random_below(random, WRONG_SIZES)));
+    }
+}
+
+/* The rules broken are a set of bits, from 1 to 12; the lowest has to win. */
+static void compare_rules_broken(struct drive *drive, uint32_t rules)
+{
+    static struct reader reader;
+    struct random *random = &drive->random;
+    struct state state = any_state_with_a_next(random);
+    struct input input;
+    uint8_t lowest = 0;
+    bool late = rules >> 12 & 1;
+    reader_make(random, &reader, &state);
+    input_make(random, &input, late ? random_between(random, 0, (uint32_t)state.last) : state.last + 1,
+               (uint8_t)random_below(random, TYPES));
+    for (uint8_t rule = 12; rule >= 1; rule--) {
+        if ((rules >> rule & 1) == 0)
+            continue;
+        if (rule <= GENERATE_LAST_RULE && rule >= GENERATE_FIRST_RULE)
+            input_spoil(random, &input, rule);
+        if (rule == 1)
+            break_rule_1(random, &reader);
+        lowest = rule;
+    }
+    compare_step(drive, &reader, &input, lowest);
+}
+
+static void compare_several_rules_broken(struct drive *drive)
+{
+    begin(drive, "the reader with two rules broken, every pair");
+    for (unsigned one = 1; one <= 12; one++)
+        for (unsigned other = one + 1; other <= 12; other++)
+            for (unsigned i = 0; i < 100; i++)
+                compare_rules_broken(drive, 1u << one | 1u << other);
+
+    begin(drive, "the reader with any set of rules broken");
+    for (uint32_t set = 0; set < 1u << 12; set++)
+        for (unsigned i = 0; i < 4; i++)
+            compare_rules_broken(drive, set << 1);
+}
+
+void drive_refusals(struct drive *drive)
+{
+    compare_sizes(drive);
+    compare_sizes_exchanged(drive);
+    compare_one_rule_broken(drive);
+    compare_any_record(drive);
+    compare_several_rules_broken(drive);
+}

@@ -1,0 +1,193 @@
+/* The reader on states made at random: ones that keep 01's list, with every kind of
+ * next record; ones that break each clause of it; any bytes. */
+#include "states.h"
+
+#include "electrons.h"
+
+#include <system.h>
+
+/* What step has to answer to a record that passes rules 2 to 11. */
+static uint8_t expected_step(const struct state *state, uint64_t count)
+{
+    if (clauses_broken(state) != 0)
+        return 1;
+    return state->accepted && count <= state->last ? 12 : 0;
+}
+
+static uint8_t expected_finish(const struct state *state)
+{
+    return clauses_broken(state) != 0 ? 1 : 0;
+}
+
+static uint8_t any_type(struct random *random)
+{
+    return random_once_in(random, 3) ? other_type(random) : (uint8_t)random_below(random, TYPES);
+}
+
+/* Steps from the state with a good record, in buffers full of dirt, then finishes. */
+static void compare_next(struct drive *drive, const struct state *state, uint64_t count, uint8_t type)
+{
+    static struct reader reader;
+    struct input input;
+    reader_make(&drive->random, &reader, state);
+    input_make(&drive->random, &input, count, type);
+    compare_step(drive, &reader, &input, expected_step(state, count));
+    if (random_once_in(&drive->random, 2))
+        compare_finish(drive, &reader, expected_finish(&reader.state));
+}
+
+/* ---- states that keep the list ---------------------------------------- */
+
+/* The count nearest to the one wanted that is above the last accepted and below
+ * 2^24. */
+static uint64_t next_count(const struct state *state, uint64_t wanted)
+{
+    if (wanted <= state->last)
+        return state->last + 1;
+    return wanted < COUNTS ? wanted : COUNTS - 1;
+}
+
+/* Every count at which something changes for a frame of the type: those around the
+ * edges of the joining rule, the next, the last of this major frame, the first of
+ * another and the last of all. */
+static void compare_next_counts(struct drive *drive, const struct state *state, uint8_t type)
+{
+    const struct accumulation *open = &state->accumulation;
+    uint64_t earliest = open->last + open->others + (uint64_t)(type - open->type);
+    const uint64_t wanted[] = {earliest - 1,   earliest,         earliest + 1,         earliest + 34,
+                               earliest + 35,  earliest + 36,    state->last + 1,      state->last | 15,
+                               (state->last | 15) + 1, (state->last | 15) + 16, COUNTS - 1};
+    for (size_t i = 0; i < sizeof wanted / sizeof wanted[0]; i++)
+        compare_next(drive, state, next_count(state, wanted[i]), type);
+}
+
+static void compare_passing(struct drive *drive, bool accumulation, bool major)
+{
+    static struct reader reader;
+    struct random *random = &drive->random;
+    struct state state = any_state(random, accumulation, major);
+    drive->passing++;
+    if (state.last < COUNTS - 1) {
+        uint8_t above = (uint8_t)random_between(random, state.accumulation.type, TYPES - 1);
+        compare_next_counts(drive, &state, above);
+        compare_next(drive, &state, state.last + 1, any_type(random));
+        compare_next(drive, &state, next_count(&state, state.last + random_below(random, 100)),
+                     (uint8_t)random_between(random, 0, state.accumulation.type));
+        compare_next(drive, &state, next_count(&state, state.last + random_below(random, 20)),
+                     other_type(random));
+    }
+    compare_next(drive, &state, state.last, any_type(random));
+    compare_next(drive, &state, random_between(random, 0, (uint32_t)state.last), any_type(random));
+    reader_make(random, &reader, &state);
+    compare_finish(drive, &reader, 0);
+    compare_finish(drive, &reader, 0);
+}
+
+/* ---- states that break it --------------------------------------------- */
+
+/* Refused by both functions, whatever the record is. */
+static void compare_broken(struct drive *drive, const struct state *state)
+{
+    static struct reader reader;
+    struct random *random = &drive->random;
+    struct input input;
+    reader_make(random, &reader, state);
+    input_make(random, &input, state->last < COUNTS - 1 ? state->last + 1 : COUNTS - 1, any_type(random));
+    if (random_once_in(random, 4))
+        input_spoil(random, &input, random_between(random, GENERATE_FIRST_RULE, GENERATE_LAST_RULE));
+    compare_step(drive, &reader, &input, 1);
+    compare_finish(drive, &reader, 1);
+}
+
+static void compare_every_clause(struct drive *drive)
+{
+    begin(drive, "states that break a clause of the list alone, each in each form");
+    for (enum clause clause = 0; clause < CLAUSES; clause++)
+        for (uint32_t form = 0; form < break_forms(clause); form++)
+            for (unsigned i = 0; i < 150; i++) {
+                struct state state = broken_state(&drive->random, clause, form);
+                compare_broken(drive, &state);
+                drive->broken[clause]++;
+            }
+
+    begin(drive, "states with counts at 2^24 and past it");
+    for (uint32_t form = 0; form < COUNT_FORMS; form++)
+        for (unsigned i = 0; i < 500; i++) {
+            struct state state = broken_counts(&drive->random, form);
+            compare_broken(drive, &state);
+        }
+}
+
+/* ---- any bytes -------------------------------------------------------- */
+
+/* A state of which nothing is known but its bytes. */
+static void compare_bytes(struct drive *drive, struct reader *reader, const uint8_t *bytes)
+{
+    struct random *random = &drive->random;
+    struct state state = get_state(bytes);
+    struct input input;
+    uint64_t count = next_count(&state, state.last + 1);
+    reader_set(reader, &state);
+    input_make(random, &input, count < COUNTS ? count : COUNTS - 1, any_type(random));
+    compare_step(drive, reader, &input, expected_step(&state, input.content.count));
+    if (random_once_in(random, 4))
+        compare_finish(drive, reader, expected_finish(&reader->state));
+}
+
+static void compare_changed_bytes(struct drive *drive)
+{
+    static struct reader reader;
+    struct random *random = &drive->random;
+    uint8_t bytes[LPMAG_STATE];
+    begin(drive, "states that keep the list, with every byte changed");
+    for (unsigned i = 0; i < 400; i++) {
+        struct state state = any_state(random, i % 2 == 0, i / 2 % 2 == 0);
+        reader_make(random, &reader, &state);
+        put_state(&state, bytes);
+        for (size_t at = 0; at < sizeof bytes; at++) {
+            uint8_t kept = bytes[at];
+            const uint8_t changed[] = {(uint8_t)(kept + 1), (uint8_t)(kept - 1),
+                                       (uint8_t)(kept ^ 1 << random_below(random, 8)),
+                                       (uint8_t)random_next(random)};
+            for (size_t j = 0; j < sizeof changed; j++) {
+                bytes[at] = changed[j];
+                compare_bytes(drive, &reader, bytes);
+            }
+            bytes[at] = kept;
+        }
+    }
+}
+
+static void compare_random_bytes(struct drive *drive)
+{
+    static const struct state fresh;
+    static struct reader reader;
+    struct random *random = &drive->random;
+    uint8_t bytes[LPMAG_STATE];
+    reader_make(random, &reader, &fresh);
+    begin(drive, "states of any bytes");
+    for (unsigned i = 0; i < 20000; i++) {
+        random_fill(random, bytes, sizeof bytes);
+        bytes[0] = (uint8_t)(i % 4 == 0 ? bytes[0] : i % 2);
+        compare_bytes(drive, &reader, bytes);
+    }
+
+    begin(drive, "states of a few bytes that aren't 0");
+    for (unsigned i = 0; i < 20000; i++) {
+        memset(bytes, 0, sizeof bytes);
+        bytes[0] = (uint8_t)random_below(random, 2);
+        for (uint32_t j = random_below(random, 4); j > 0; j--)
+            bytes[random_below(random, sizeof bytes)] = (uint8_t)(1 << random_below(random, 8));
+        compare_bytes(drive, &reader, bytes);
+    }
+}
+
+void drive_states(struct drive *drive)
+{
+    begin(drive, "states that keep the list, with every kind of next record");
+    for (unsigned i = 0; i < 20000; i++)
+        compare_passing(drive, i % 4 < 3, i % 8 < 5);
+    compare_every_clause(drive);
+    compare_changed_bytes(drive);
+    compare_random_bytes(drive);
+}

@@ -1,0 +1,388 @@
+#include "states.h"
+
+#include "electrons.h"
+#include "text.h"
+
+/* ---- states that keep the list ---------------------------------------- */
+
+static bool coin(struct random *random)
+{
+    return random_once_in(random, 2);
+}
+
+/* A number from 0 to `most`, often one of the two. */
+static uint64_t up_to(struct random *random, uint64_t most)
+{
+    switch (random_below(random, 4)) {
+    case 0:
+        return 0;
+    case 1:
+        return most;
+    default:
+        return random_between(random, 0, (uint32_t)most);
+    }
+}
+
+/* Room between two counts, often none. */
+static uint64_t room(struct random *random)
+{
+    static const uint64_t most[] = {0, 0, 80, 4000000};
+    return up_to(random, most[random_below(random, 4)]);
+}
+
+static uint64_t any_held(struct random *random)
+{
+    uint64_t held = random_next(random) & ALL_HELD;
+    switch (random_below(random, 4)) {
+    case 0:
+        return (uint64_t)1 << random_below(random, TYPES);
+    case 1:
+        return ALL_HELD >> random_below(random, TYPES);
+    default:
+        return held != 0 ? held : 1;
+    }
+}
+
+/* First count, last and last accepted, each as far after the one before as the list
+ * demands, and some room. */
+static void open_accumulation(struct random *random, struct state *state)
+{
+    struct accumulation *open = &state->accumulation;
+    open->held = any_held(random);
+    open->type = (uint8_t)highest(open->held);
+    open->others = room(random);
+    uint64_t frames = ones(open->held) - 1 + room(random);
+    uint64_t after = open->others + room(random);
+    open->first = up_to(random, COUNTS - 1 - frames - after);
+    open->last = open->first + frames;
+    state->last = open->last + after;
+}
+
+/* The slot of the last accepted count, and any before it. */
+static void open_major(struct random *random, struct state *state)
+{
+    struct major *open = &state->major;
+    unsigned last = state->last & 15;
+    open->number = state->last >> 4;
+    open->slots = (uint16_t)(1u << last | (up_to(random, 0xFFFF) & ((1u << last) - 1)));
+    open->mag = (uint16_t)(up_to(random, 0xFFFF) & open->slots);
+    for (unsigned slot = 0; slot < SLOTS; slot++) {
+        open->ranges[slot] = open->mag >> slot & 1 ? (uint8_t)up_to(random, 7) : 0;
+        open->words[slot] = open->slots >> slot & 1 ? (uint16_t)up_to(random, 0xFFFF) : 0;
+    }
+}
+
+struct state any_state(struct random *random, bool accumulation, bool major)
+{
+    struct state state = {.accepted = 1};
+    if (accumulation)
+        open_accumulation(random, &state);
+    else
+        state.last = up_to(random, COUNTS - 1);
+    if (major)
+        open_major(random, &state);
+    return state;
+}
+
+/* ---- states that break a clause --------------------------------------- */
+
+static const uint64_t past_counts[] = {
+    COUNTS, COUNTS + 1, COUNTS + 100, 0x80000000, (uint64_t)1 << 32, (uint64_t)1 << 63, UINT64_MAX,
+};
+enum { PAST_COUNTS = sizeof past_counts / sizeof past_counts[0] };
+
+uint32_t break_forms(enum clause clause)
+{
+    switch (clause) {
+    case LAST_ACCEPTED_BELOW:
+        return PAST_COUNTS;
+    case FRAMES_AMONG_36:
+        return 2 * (64 - TYPES);
+    case ACCEPTED_IS_0_OR_1:
+    case HIGHEST_SLOT:
+    case RANGES_TO_7:
+    case RANGES_NOT_HELD:
+    case WORDS_NOT_HELD:
+    case NO_SLOT_HELD:
+        return 4;
+    case HIGHEST_IS_LAST_TYPE:
+    case FIRST_AND_FRAMES:
+        return 6;
+    case MAJOR_NUMBER:
+    case NOTHING_ACCEPTED:
+        return 7;
+    case LAST_AND_OTHERS:
+    case NO_ACCUMULATION_OPEN:
+        return 8;
+    case MAG_AMONG_SLOTS:
+        return 1;
+    default:
+        return 0;
+    }
+}
+
+/* The last accepted count moves, and the open major frame with it. */
+static void move_last(struct random *random, struct state *state, uint64_t last)
+{
+    bool major = state->major.slots != 0;
+    state->last = last;
+    state->major = (struct major){0};
+    if (major)
+        open_major(random, state);
+}
+
+static void drop_slot(struct major *open, unsigned slot)
+{
+    open->slots &= (uint16_t)~(1u << slot);
+    open->mag &= (uint16_t)~(1u << slot);
+    open->ranges[slot] = 0;
+    open->words[slot] = 0;
+}
+
+/* A mark from 36 on, among the others or alone. */
+static void break_frames(struct accumulation *open, uint32_t form)
+{
+    uint32_t mark = TYPES + form / 2;
+    open->held = (uint64_t)1 << mark | (form % 2 == 0 ? open->held : 0);
+    open->type = (uint8_t)mark;
+}
+
+static void break_last_type(struct random *random, struct accumulation *open, uint32_t form)
+{
+    const uint8_t types[] = {
+        (uint8_t)(open->type + 1),
+        (uint8_t)(open->type - 1),
+        (uint8_t)(open->type + 64),                               /* of the same low six bits */
+        (uint8_t)__builtin_ctzll(open->held | (uint64_t)1 << 63), /* the lowest held */
+        255,
+        (uint8_t)random_next(random),
+    };
+    open->type = types[form];
+}
+
+static void break_first(struct random *random, struct accumulation *open, uint32_t form)
+{
+    uint64_t frames = ones(open->held);
+    switch (form) {
+    case 0:
+        open->first = open->last - frames + 2;
+        break;
+    case 1:
+        open->last = open->first + frames - 2;
+        break;
+    case 2:
+        open->first = open->last;
+        break;
+    case 3:
+        open->first = open->last + 1;
+        break;
+    case 4:
+        open->first = COUNTS - 1;
+        break;
+    default:
+        open->first = up_to(random, COUNTS - 1);
+    }
+}
+
+/* A sum that is one too large, or whose low 32 bits are small, or that leaves 64
+ * bits and comes back small; or a last count that is too large by itself. */
+static void break_others(struct random *random, struct state *state, uint32_t form)
+{
+    struct accumulation *open = &state->accumulation;
+    const uint64_t others[] = {
+        state->last - open->last + 1,
+        (uint64_t)1 << 32,
+        (uint64_t)1 << 63,
+        UINT64_MAX,     /* with the last count, one less than that */
+        0 - open->last, /* with it, 0 */
+        COUNTS - open->last,
+    };
+    const uint64_t lasts[] = {state->last + 1, up_to(random, COUNTS - 1)};
+    if (form < 6) {
+        open->others = others[form];
+    } else {
+        open->last = lasts[form - 6];
+        open->others = 0;
+    }
+}
+
+static void break_number(struct random *random, struct major *open, uint32_t form)
+{
+    const uint64_t numbers[] = {
+        open->number + 1,
+        open->number - 1,
+        open->number + ((uint64_t)1 << 60), /* 16 times it is the same in 64 bits */
+        open->number + ((uint64_t)1 << 32),
+        0,
+        UINT64_MAX,
+        up_to(random, COUNTS >> 4),
+    };
+    open->number = numbers[form];
+}
+
+/* Another slot, or the last one gone. */
+static void break_slots(struct random *random, struct state *state, uint32_t form)
+{
+    if (form < 2)
+        drop_slot(&state->major, state->last & 15);
+    else
+        state->major.slots |= (uint16_t)(1u << (form == 2 ? 15 : random_below(random, SLOTS)));
+}
+
+static void break_closed(struct random *random, struct accumulation *closed, uint32_t form)
+{
+    switch (form) {
+    case 0:
+    case 1:
+        closed->first = form == 0 ? 1 : up_to(random, COUNTS - 1);
+        break;
+    case 2:
+    case 3:
+        closed->type = (uint8_t)(form == 2 ? 1 : up_to(random, 255));
+        break;
+    case 4:
+    case 5:
+        closed->last = form == 4 ? 1 : up_to(random, COUNTS - 1);
+        break;
+    default:
+        closed->others = form == 6 ? 1 : UINT64_MAX;
+    }
+}
+
+/* Nothing was accepted, but something isn't 0: the least that keeps all other
+ * clauses, or anything. */
+static void break_nothing(struct random *random, struct state *state, uint32_t form)
+{
+    if (form < 6)
+        *state = (struct state){0};
+    state->accepted = 0;
+    switch (form) {
+    case 0:
+        state->last = 1;
+        break;
+    case 1:
+        state->last = up_to(random, COUNTS - 1);
+        break;
+    case 2:
+        state->accumulation.held = 1;
+        break;
+    case 3:
+        state->major.slots = 1;
+        break;
+    case 4:
+        state->major.slots = state->major.mag = 1;
+        state->major.ranges[0] = 7;
+        break;
+    case 5:
+        state->major.slots = 1;
+        state->major.words[0] = 1;
+        break;
+    }
+}
+
+static void break_clause(struct random *random, struct state *state, enum clause clause, uint32_t form)
+{
+    static const uint8_t marks[4] = {2, 3, 128, 255};
+    static const uint8_t ranges[4] = {8, 16, 128, 255};
+    static const uint8_t ranges_not_held[4] = {1, 7, 8, 255};
+    static const uint16_t words[4] = {0x0001, 0x0100, 0x8000, 0xFFFF};
+    const uint64_t numbers[4] = {1, state->last >> 4, (uint64_t)1 << 60, UINT64_MAX};
+    unsigned slot = random_below(random, SLOTS);
+    switch (clause) {
+    case ACCEPTED_IS_0_OR_1:
+        state->accepted = marks[form];
+        break;
+    case LAST_ACCEPTED_BELOW:
+        move_last(random, state, past_counts[form]);
+        break;
+    case FRAMES_AMONG_36:
+        break_frames(&state->accumulation, form);
+        break;
+    case HIGHEST_IS_LAST_TYPE:
+        break_last_type(random, &state->accumulation, form);
+        break;
+    case FIRST_AND_FRAMES:
+        break_first(random, &state->accumulation, form);
+        break;
+    case LAST_AND_OTHERS:
+        break_others(random, state, form);
+        break;
+    case MAG_AMONG_SLOTS:
+        state->major.mag |= (uint16_t)(1u << slot);
+        break;
+    case MAJOR_NUMBER:
+        break_number(random, &state->major, form);
+        break;
+    case HIGHEST_SLOT:
+        break_slots(random, state, form);
+        break;
+    case RANGES_TO_7:
+        state->major.ranges[slot] = ranges[form];
+        break;
+    case RANGES_NOT_HELD:
+        state->major.ranges[slot] = ranges_not_held[form];
+        break;
+    case WORDS_NOT_HELD:
+        state->major.words[slot] = words[form];
+        break;
+    case NO_ACCUMULATION_OPEN:
+        break_closed(random, &state->accumulation, form);
+        break;
+    case NO_SLOT_HELD:
+        state->major.number = numbers[form];
+        break;
+    case NOTHING_ACCEPTED:
+        break_nothing(random, state, form);
+        break;
+    default:
+        break;
+    }
+}
+
+/* Most changes break the clause, and only it, in some states and not in others;
+ * so it is tried until one comes that serves. */
+struct state broken_state(struct random *random, enum clause clause, uint32_t form)
+{
+    for (unsigned tries = 0; tries < 100000; tries++) {
+        struct state state = any_state(random, coin(random), coin(random));
+        break_clause(random, &state, clause, form);
+        if (clauses_broken(&state) == 1u << clause)
+            return state;
+    }
+    fail(1, "compare: no state was found that breaks a clause of the list alone");
+}
+
+struct state broken_counts(struct random *random, uint32_t form)
+{
+    struct state state = any_state(random, true, false);
+    struct accumulation *open = &state.accumulation;
+    uint64_t past = past_counts[random_below(random, PAST_COUNTS)];
+    uint64_t frames = ones(open->held) - 1;
+    switch (form) {
+    case 0: /* only the last accepted */
+        state.last = past;
+        break;
+    case 1: /* and the last real-time */
+        open->last = state.last = past;
+        open->others = 0;
+        break;
+    case 2: /* and the first */
+        open->first = past - frames;
+        open->last = state.last = past;
+        open->others = 0;
+        break;
+    case 3: /* the last real-time alone */
+        open->last = past;
+        break;
+    case 4: /* the first alone */
+        open->first = past;
+        break;
+    default: /* the first, so large that with the frames it comes back small */
+        open->held = ALL_HELD;
+        open->type = TYPES - 1;
+        open->first = 0 - (uint64_t)random_between(random, 1, TYPES - 1);
+    }
+    if (coin(random))
+        open_major(random, &state);
+    return state;
+}
