@@ -1,16 +1,13 @@
 -- What a step's buffers are known to be.
 -- Assumes nothing.
-use mathlib.Core.Path.{_≡_, refl, sym, ap, _∙_}
-use mathlib.Core.Bool.{Bool, true, false, cond, _&&_}
+use mathlib.Core.Path.{_≡_, refl, _∙_}
+use mathlib.Core.Bool.{Bool, true, false}
 use mathlib.Core.List.{List}
-use Prim.Native.Nat.{ℕ, _*_, _+_, _<_, _≤_}
-use native.Mathlib.Omega.{arith}
-use lib.Dec.{eqb}
-use lib.IntN.{ℤ, pos}
-use lib.ListN.{length, length-replicate, length-take, length-drop}
+use Prim.Native.Nat.{ℕ}
+use lib.ListN.{length, length-replicate}
 use borrow.Author.Tests.{eqb-true, eq-eqb}
 use Rattle.buffers.specs.Copying.{copied}
-use Rattle.record.specs.Layout.{size, packetBytes, scienceBytes, magBytes, frameCode}
+use Rattle.record.specs.Layout.{size}
 use Rattle.cells.specs.Laying.{cellsSize}
 use Rattle.state.proofs.Facts.{two}
 use Rattle.reader.specs.Buffers.{frameSamples, copiedBy, clearedBy}

@@ -1,6 +1,6 @@
 -- What the code of step and finish comes to is what their definitions say.
 -- Assumes nothing.
-use mathlib.Core.Path.{_≡_, refl, sym, ap, ap₂, _∙_}
+use mathlib.Core.Path.{_≡_, refl, sym, ap, _∙_}
 use mathlib.Core.Bool.{Bool, true, false, cond, _&&_, true≢false}
 use mathlib.Core.List.{List}
 use Prim.Native.Nat.{ℕ, _%_, _<_}
@@ -14,14 +14,13 @@ use Rattle.carriage.specs.Carriage.{types}
 use Rattle.cells.specs.Laying.{cellsSize, frameType}
 use Rattle.state.specs.List.{listed}
 use Rattle.state.specs.Major.{slotOf}
-use Rattle.state.specs.Deciding.{Input, dated, numberOf, refusal, decidedOf, answerNumber, DecidedIs}
+use Rattle.state.specs.Deciding.{Input, dated, numberOf, refusal, decidedOf, DecidedIs}
 use Rattle.state.specs.Ending.{unended, ending, endedOf, endNumber, EndedIs}
 use Rattle.state.specs.declared.State.{State}
 use Rattle.state.specs.declared.deciding.Decided.{Decided}
 use Rattle.state.specs.declared.ending.Ended.{Ended}
-use Rattle.state.specs.declared.work.Work.{Work}
 use Rattle.state.proofs.Facts.{two}
-use Rattle.state.proofs.Told.{Passed, all-pass, passed-size, at-work, refused-is, accepted-clock, real-type, cells-real}
+use Rattle.state.proofs.Told.{all-pass, passed-size, at-work, refused-is, accepted-clock, real-type, cells-real}
 use Rattle.reader.specs.Buffers.{frameSamples, copiedBy, clearedBy, frameLaidBy, slotLaidBy}
 use Rattle.reader.specs.Steps.{sizedBy, buffers, sized, input, StepIs, FinishIs}
 use Rattle.reader.proofs.Lengths.{Sizes, sizes, length-cleared}

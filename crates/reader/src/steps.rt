@@ -82,11 +82,11 @@ pub fn finish(
     );
     let ended = state::end(state, sized);
     let finished = ended.finished;
-    let samples = ended.samples;
-    let cells = ended.cells;
-    copy_samples(samples.copies, open_samples, finished_samples);
-    clear_samples(samples.clears, open_samples);
-    copy_cells(cells.copies, open_cells, finished_cells);
-    clear_cells(cells.clears, open_cells);
+    let last_samples = ended.samples;
+    let last_cells = ended.cells;
+    copy_samples(last_samples.copies, open_samples, finished_samples);
+    clear_samples(last_samples.clears, open_samples);
+    copy_cells(last_cells.copies, open_cells, finished_cells);
+    clear_cells(last_cells.clears, open_cells);
     finished
 }

@@ -1,7 +1,7 @@
 -- The state list is kept by step and finish; from a state that passes it rule 13 can't hit.
 -- Assumes nothing.
 use mathlib.Core.Path.{_≡_, refl, sym, subst⁻¹, _∙_}
-use mathlib.Core.Bool.{Bool, true, false, not, cond, _&&_, _||_, and-true, or-true, true≢false, false≢true}
+use mathlib.Core.Bool.{Bool, true, false, not, cond, _&&_, _||_, true≢false}
 use mathlib.Core.List.{List}
 use Prim.Native.Nat.{ℕ, _+_, _<_}
 use native.Mathlib.Omega.{arith}
@@ -10,7 +10,7 @@ use lib.Dec.{eqb}
 use lib.ListN.{length, replicate, getD, length-replicate, getD-replicate}
 use lib.Pow.{pow-pos}
 use lib.Seq.{ext-getD}
-use borrow.Author.Tests.{eqb-true, eqb-false, eq-eqb, ne-eqb, ltb-true, lt-ltb, le-leb}
+use borrow.Author.Tests.{eqb-true, eqb-false, eq-eqb, ltb-true, lt-ltb, le-leb}
 use Rattle.tables.specs.Marks.{bitSet}
 use Rattle.tables.specs.Rules.{ofPart, holdsIn}
 use Rattle.record.specs.Rules.{rules}
@@ -20,10 +20,9 @@ use Rattle.bits.specs.Numbers.{most}
 use Rattle.bits.proofs.Numbers as bits
 use Rattle.record.specs.Layout.{packetBytes, magBytes}
 use Rattle.record.specs.Contents.{recordOf}
-use Rattle.record.specs.declared.Record.{Record}
 use Rattle.mag.specs.Samples.{range}
 use Rattle.state.specs.Clock.{counts, unset, later, accepted}
-use Rattle.state.specs.Accumulation.{noAccumulation, joins, unguarded, joined, started, passed, extends, renews, passes, stepAccumulation}
+use Rattle.state.specs.Accumulation.{noAccumulation, joins, unguarded, extends, renews, passes, stepAccumulation}
 use Rattle.state.specs.Major.{slotOf, noMajor, continues, into, stays, turns, stepMajor}
 use Rattle.state.specs.List.{fresh, countsBelow, framesAmong, framesFit, othersFit, slotHolds, slotsHold, majorNow, noneOpen, noSlot, begun, listed}
 use Rattle.state.specs.Deciding.{isRealTime, Input, dated, joining, stateHolds, clockHolds, guardHolds, readerRules, numberOf, acceptedAt, acceptance, decidedOf}
@@ -33,11 +32,10 @@ use Rattle.state.specs.declared.State.{State}
 use Rattle.state.specs.declared.accumulation.Accumulation.{Accumulation}
 use Rattle.state.specs.declared.clock.Clock.{Clock}
 use Rattle.state.specs.declared.deciding.Decided.{Decided}
-use Rattle.state.specs.declared.ending.Ended.{Ended}
 use Rattle.state.specs.declared.major.Major.{Major}
 use Rattle.state.proofs.Numbers.{exactly}
 use Rattle.state.proofs.Facts.{two, second, Listed, facts, is-free, frame-above, slot-clauses, mag-among}
-use Rattle.state.proofs.Told.{Passed, all-pass, accepted-is, refused-is, real-type}
+use Rattle.state.proofs.Told.{all-pass, accepted-is, refused-is, real-type}
 use Rattle.state.proofs.KeepsFrames.{Frames, none-zero, joins-open, below-mark, keeps-joined, keeps-passed, keeps-started}
 use Rattle.state.proofs.KeepsSlots.{Slots, Room, well-facts, shaped-none, none-well, room-none, room-free, keeps-into, shaped-into}
 

@@ -1,16 +1,15 @@
 -- The open major frame keeps its part of the state list.
 -- Assumes nothing.
-use mathlib.Core.Path.{_≡_, refl, sym, ap, _∙_, subst}
-use mathlib.Core.Bool.{Bool, true, false, not, cond, _&&_, _||_}
-use Prim.Native.Nat.{ℕ, _+_, _-_, _/_, _%_, _^_, _<_, _≤_}
+use mathlib.Core.Path.{_≡_, refl, sym, subst}
+use mathlib.Core.Bool.{Bool, true, false, _&&_}
+use Prim.Native.Nat.{ℕ, _+_, _-_, _/_, _^_, _<_, _≤_}
 use native.Mathlib.Omega.{arith}
-use lib.Dec.{eqb, leb}
-use lib.ListN.{length, getD, set, replicate, length-set, length-replicate, getD-replicate}
+use lib.Dec.{eqb}
+use lib.ListN.{length, getD, length-set, getD-replicate}
 use lib.Pow.{pow-mono, pow-pos}
 use lib.Seq.{getD-set-same, getD-set-other}
 use borrow.Author.Tests.{eqb-true, eqb-false, eq-eqb, ne-eqb, le-leb}
-use Rattle.tables.specs.Marks.{bitSet, highest, marked}
-use Rattle.tables.specs.Upto.{upto}
+use Rattle.tables.specs.Marks.{highest, marked}
 use Rattle.tables.proofs.Marks.{highest-marked, marked-own, marked-other, marked-below, bits-above, below}
 use Rattle.tables.proofs.Upto.{upto-all}
 use Rattle.state.specs.Clock.{accepted}

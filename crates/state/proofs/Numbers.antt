@@ -7,7 +7,7 @@ use Prim.Native.Nat.{ℕ, _<_}
 use native.Mathlib.Omega.{arith}
 use lib.Dec.{eqb}
 use lib.ListN.{length, length-take, length-drop}
-use borrow.Author.Tests.{eq-eqb, ne-eqb, eqb-true, eqb-false}
+use borrow.Author.Tests.{eq-eqb, ne-eqb}
 use Rattle.tables.specs.Rules.{ofPart, firstBroken, FirstBroken, rule}
 use Rattle.tables.proofs.Order.{parts-then, first-broken}
 use Rattle.record.specs.Layout.{size, packetBytes, magBytes}

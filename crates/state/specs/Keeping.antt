@@ -1,7 +1,7 @@
 -- What is said of the state list (01, "Numbers a refused record gets"): the fresh state passes it, and so does every state that is
 -- handed back from one that passes; rule 13 can't hit.
 -- Assumes nothing.
-use Prim.Native.Nat.{ℕ, _^_, _<_}
+use Prim.Native.Nat.{_^_, _<_}
 use mathlib.Core.Bool.{Bool, true}
 use mathlib.Core.Path.{_≡_}
 use lib.ListN.{length}

@@ -1,13 +1,13 @@
 -- Laws of marks kept as the bits of a number.
 -- Assumes nothing.
-use mathlib.Core.Path.{_≡_, refl, sym, ap, _∙_, subst}
+use mathlib.Core.Path.{_≡_, refl, sym, ap, _∙_}
 use mathlib.Core.Bool.{Bool, true, false}
 use Prim.Native.Nat.{ℕ, zero, suc, _+_, _-_, _*_, _/_, _%_, _^_, _<_, _≤_}
-use native.Mathlib.Nat.{add-comm, add-zero, add-suc, one-mul, pow-suc, pow-le-pow-right, div-eq-of-lt, mod-eq-of-lt, add-mul-div-right, div-add-mod', mod-lt, lt-of-lt-of-le, div-lt-iff-lt-mul, le-div-iff-mul-le}
+use native.Mathlib.Nat.{add-comm, add-zero, add-suc, one-mul, pow-suc, div-eq-of-lt, mod-eq-of-lt, add-mul-div-right, div-lt-iff-lt-mul, le-div-iff-mul-le}
 use native.Mathlib.Numerals.{add-one}
 use native.Mathlib.Omega.{arith}
 use lib.Count.{ones, onesIn, ones-cat}
-use lib.Dec.{eqb, ltb}
+use lib.Dec.{ltb}
 use lib.Pow.{pow-mono, pow-pos, pow-lt, pow-add}
 use borrow.Author.Tests.{eqb-true, eqb-false, ltb-true, ltb-false}
 use Rattle.tables.specs.Marks.{bitSet, highest, marked}

@@ -1,7 +1,6 @@
 -- `state::fresh` meets its contract.
 -- Assumes nothing.
 use Rattle.state.specs.List.{fresh}
-use native.Mathlib.Omega.{arith}
 use borrow.Author.Needs.{needs}
 use Rattle.state.proofs.fresh.Statement.{statement}
 use Rattle.state.proofs.fresh.Tie as tie

@@ -2,7 +2,6 @@
 -- Assumes nothing.
 use denote.Ref.{now}
 use Rattle.capi.proofs.Asked.{nominal-told, no-nominal}
-use native.Mathlib.Omega.{arith}
 use borrow.Author.Needs.{needs}
 use Rattle.capi.proofs.frames.lpmag_major_field.Statement.{statement}
 use Rattle.capi.proofs.frames.lpmag_major_field.Tie as tie

@@ -8,7 +8,6 @@ use mathlib.Core.Path.{_≡_}
 use mir.Syntax.{w16}
 use mir.Val.{SFits, toZ, ofZ}
 use mir.ValLaws.{toZ-ofZ}
-use native.Mathlib.Omega.{arith}
 use borrow.Author.Needs.{needs}
 use Rattle.capi.proofs.frames.lpmag_major_sample.Statement.{statement}
 use Rattle.capi.proofs.frames.lpmag_major_sample.Tie as tie

@@ -6,7 +6,6 @@ use denote.Ref.{now}
 use Rattle.encoding.specs.States.{majorOf}
 use Rattle.majors.specs.Questions.{slots, slotHeld}
 use Rattle.capi.proofs.Asked.{word-told, no-frame}
-use native.Mathlib.Omega.{arith}
 use borrow.Author.Needs.{needs}
 use Rattle.capi.proofs.frames.lpmag_major_word.Statement.{statement}
 use Rattle.capi.proofs.frames.lpmag_major_word.Tie as tie

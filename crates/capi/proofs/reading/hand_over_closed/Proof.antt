@@ -2,7 +2,6 @@
 -- Assumes nothing.
 use denote.Ref.{now}
 use Rattle.capi.proofs.Hands.{hands-unended, hands-ended}
-use native.Mathlib.Omega.{arith}
 use borrow.Author.Needs.{needs}
 use Rattle.capi.proofs.reading.hand_over_closed.Statement.{statement}
 use Rattle.capi.proofs.reading.hand_over_closed.Tie as tie

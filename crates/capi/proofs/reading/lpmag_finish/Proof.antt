@@ -1,12 +1,10 @@
 -- `capi::reading::lpmag_finish` meets its contract.
 -- Assumes nothing.
-use mathlib.Core.Path.{sym, _∙_}
 use denote.Ref.{now}
 use Rattle.state.proofs.Clauses.{held, fails}
 use Rattle.reader.specs.Steps.{buffers}
 use Rattle.encoding.specs.Reports.{closedSize}
 use Rattle.capi.proofs.Hands.{no-state, no-room, both-fit, finish-unread, finish-given}
-use native.Mathlib.Omega.{arith}
 use borrow.Author.Needs.{needs}
 use Rattle.capi.proofs.reading.lpmag_finish.Statement.{statement}
 use Rattle.capi.proofs.reading.lpmag_finish.Tie as tie

@@ -1,12 +1,10 @@
 -- `capi::reading::lpmag_step` meets its contract.
 -- Assumes nothing.
-use mathlib.Core.Path.{sym, _∙_}
 use denote.Ref.{now}
 use Rattle.state.proofs.Clauses.{held, fails}
 use Rattle.reader.specs.Steps.{buffers}
 use Rattle.encoding.specs.Reports.{reportSize}
 use Rattle.capi.proofs.Hands.{no-state, no-room, both-fit, step-unread, step-given}
-use native.Mathlib.Omega.{arith}
 use borrow.Author.Needs.{needs}
 use Rattle.capi.proofs.reading.lpmag_step.Statement.{statement}
 use Rattle.capi.proofs.reading.lpmag_step.Tie as tie

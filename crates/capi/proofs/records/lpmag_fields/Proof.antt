@@ -1,12 +1,11 @@
 -- `capi::records::lpmag_fields` meets its contract.
 -- Assumes nothing.
-use mathlib.Core.Path.{sym, ap, _∙_}
+use mathlib.Core.Path.{sym, ap}
 use denote.Ref.{now}
 use Rattle.record.specs.Contents.{recordOf}
 use Rattle.record.proofs.Told.{fields-told, number-told}
 use Rattle.encoding.specs.Fields.{fieldsSize, fieldBytes}
 use Rattle.capi.proofs.Outcomes.{wrong-room, refused, written-in}
-use native.Mathlib.Omega.{arith}
 use borrow.Author.Needs.{needs}
 use Rattle.capi.proofs.records.lpmag_fields.Statement.{statement}
 use Rattle.capi.proofs.records.lpmag_fields.Tie as tie

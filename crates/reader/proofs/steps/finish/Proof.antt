@@ -2,7 +2,6 @@
 -- Assumes nothing.
 use denote.Ref.{now}
 use Rattle.reader.proofs.Outcomes.{samples-end, cells-end, finish-is}
-use native.Mathlib.Omega.{arith}
 use borrow.Author.Needs.{needs}
 use Rattle.reader.proofs.steps.finish.Statement.{statement}
 use Rattle.reader.proofs.steps.finish.Tie as tie

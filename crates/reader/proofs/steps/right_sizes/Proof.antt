@@ -2,7 +2,6 @@
 -- Assumes nothing.
 use borrow.Author.Tests.{eq-eqb, ne-eqb}
 use Rattle.reader.specs.Steps.{sizedBy}
-use native.Mathlib.Omega.{arith}
 use borrow.Author.Needs.{needs}
 use Rattle.reader.proofs.steps.right_sizes.Statement.{statement}
 use Rattle.reader.proofs.steps.right_sizes.Tie as tie

@@ -1,9 +1,6 @@
 -- `state::accumulation::accumulation_report` meets its contract.
 -- Assumes nothing.
 use borrow.Author.Tests.{eq-eqb, ne-eqb, le-leb, lt-leb, lt-ltb, le-ltb}
-use mathlib.Core.Bool.{true, false}
-use Rattle.state.specs.Accumulation.{reported}
-use native.Mathlib.Omega.{arith}
 use borrow.Author.Needs.{needs}
 use Rattle.state.proofs.accumulation.accumulation_report.Statement.{statement}
 use Rattle.state.proofs.accumulation.accumulation_report.Tie as tie

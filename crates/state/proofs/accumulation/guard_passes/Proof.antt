@@ -1,10 +1,6 @@
 -- `state::accumulation::guard_passes` meets its contract.
 -- Assumes nothing.
-use borrow.Author.Tests.{eq-eqb, ne-eqb, le-leb, lt-leb, lt-ltb, le-ltb}
-use mathlib.Core.Bool.{true, false}
-use Rattle.state.specs.Accumulation.{unguarded}
 use Rattle.state.proofs.Joining.{guard-apart, guard-joined}
-use native.Mathlib.Omega.{arith}
 use borrow.Author.Needs.{needs}
 use Rattle.state.proofs.accumulation.guard_passes.Statement.{statement}
 use Rattle.state.proofs.accumulation.guard_passes.Tie as tie

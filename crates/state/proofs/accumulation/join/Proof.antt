@@ -1,7 +1,6 @@
 -- `state::accumulation::join` meets its contract.
 -- Assumes nothing.
 use Rattle.tables.proofs.Marks.{weight}
-use Rattle.state.specs.Accumulation.{joined}
 use Rattle.tables.specs.Marks.{marked}
 use lib.Pow.{pow-mono}
 use native.Mathlib.Omega.{arith}

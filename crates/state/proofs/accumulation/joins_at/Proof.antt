@@ -1,9 +1,8 @@
 -- `state::accumulation::joins_at` meets its contract.
 -- Assumes nothing.
-use mathlib.Core.Bool.{true, false}
 use borrow.Author.Tests.{eq-eqb, ne-eqb, le-leb, lt-leb, lt-ltb, le-ltb}
 use Rattle.state.specs.Accumulation.{joins}
-use Rattle.state.proofs.Clauses.{not-true, not-false}
+use Rattle.state.proofs.Clauses.{not-false}
 use Rattle.state.proofs.Joining.{other-apart}
 use native.Mathlib.Omega.{arith}
 use borrow.Author.Needs.{needs}

@@ -1,8 +1,6 @@
 -- `state::accumulation::pass` meets its contract.
 -- Assumes nothing.
 use borrow.Author.Tests.{eq-eqb, ne-eqb, le-leb, lt-leb, lt-ltb, le-ltb}
-use mathlib.Core.Bool.{true, false}
-use Rattle.state.specs.Accumulation.{passed}
 use native.Mathlib.Omega.{arith}
 use borrow.Author.Needs.{needs}
 use Rattle.state.proofs.accumulation.pass.Statement.{statement}

@@ -1,7 +1,6 @@
 -- `state::accumulation::step_accumulation` meets its contract.
 -- Assumes nothing.
 use Rattle.state.proofs.Parts.{is-passed, is-joined, is-started}
-use native.Mathlib.Omega.{arith}
 use borrow.Author.Needs.{needs}
 use Rattle.state.proofs.accumulation.step_accumulation.Statement.{statement}
 use Rattle.state.proofs.accumulation.step_accumulation.Tie as tie

@@ -1,9 +1,7 @@
 -- `state::clock::arrival_of` meets its contract.
 -- Assumes nothing.
-use borrow.Author.Tests.{eq-eqb, ne-eqb, le-leb, lt-leb, lt-ltb, le-ltb}
-use mathlib.Core.Bool.{true, false}
+use borrow.Author.Tests.{lt-ltb, le-ltb}
 use Rattle.state.specs.Clock.{arrivalOf, later}
-use native.Mathlib.Omega.{arith}
 use borrow.Author.Needs.{needs}
 use Rattle.state.proofs.clock.arrival_of.Statement.{statement}
 use Rattle.state.proofs.clock.arrival_of.Tie as tie

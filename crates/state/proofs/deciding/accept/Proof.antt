@@ -1,7 +1,6 @@
 -- `state::deciding::accept` meets its contract.
 -- Assumes nothing.
 use Rattle.state.specs.Deciding.{acceptedAt}
-use native.Mathlib.Omega.{arith}
 use borrow.Author.Needs.{needs}
 use Rattle.state.proofs.deciding.accept.Statement.{statement}
 use Rattle.state.proofs.deciding.accept.Tie as tie

@@ -9,7 +9,6 @@ use Rattle.state.specs.List.{listed}
 use Rattle.state.proofs.Clauses.{not-false, held, fails, above-0}
 use Rattle.state.proofs.Joining.{other-apart}
 use Rattle.state.specs.Deciding.{decidedBy}
-use native.Mathlib.Omega.{arith}
 use borrow.Author.Needs.{needs}
 use Rattle.state.proofs.deciding.decide.Statement.{statement}
 use Rattle.state.proofs.deciding.decide.Tie as tie

@@ -1,7 +1,6 @@
 -- `state::deciding::decide_at` meets its contract.
 -- Assumes nothing.
 use Rattle.state.proofs.Numbers.{guarded, unharmed}
-use native.Mathlib.Omega.{arith}
 use borrow.Author.Needs.{needs}
 use Rattle.state.proofs.deciding.decide_at.Statement.{statement}
 use Rattle.state.proofs.deciding.decide_at.Tie as tie

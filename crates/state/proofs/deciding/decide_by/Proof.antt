@@ -5,7 +5,6 @@ use Rattle.state.proofs.Facts.{ready}
 use mathlib.Core.Path.{sym, ap, _∙_}
 use Prim.Native.Nat.{ℕ}
 use Rattle.state.specs.Deciding.{decidedAt, decidedBy}
-use native.Mathlib.Omega.{arith}
 use borrow.Author.Needs.{needs}
 use Rattle.state.proofs.deciding.decide_by.Statement.{statement}
 use Rattle.state.proofs.deciding.decide_by.Tie as tie

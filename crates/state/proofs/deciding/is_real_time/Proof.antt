@@ -1,9 +1,7 @@
 -- `state::deciding::is_real_time` meets its contract.
 -- Assumes nothing.
 use borrow.Author.Tests.{eq-eqb, ne-eqb, le-leb, lt-leb, lt-ltb, le-ltb}
-use mathlib.Core.Bool.{true, false}
 use Rattle.state.specs.Deciding.{isRealTime}
-use native.Mathlib.Omega.{arith}
 use borrow.Author.Needs.{needs}
 use Rattle.state.proofs.deciding.is_real_time.Statement.{statement}
 use Rattle.state.proofs.deciding.is_real_time.Tie as tie

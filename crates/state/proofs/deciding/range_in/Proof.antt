@@ -2,7 +2,6 @@
 -- Assumes nothing.
 use Rattle.state.proofs.Numbers.{range-so, range-always}
 use denote.Ref.{now}
-use native.Mathlib.Omega.{arith}
 use borrow.Author.Needs.{needs}
 use Rattle.state.proofs.deciding.range_in.Statement.{statement}
 use Rattle.state.proofs.deciding.range_in.Tie as tie

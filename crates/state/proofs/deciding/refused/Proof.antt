@@ -1,6 +1,5 @@
 -- `state::deciding::refused` meets its contract.
 -- Assumes nothing.
-use native.Mathlib.Omega.{arith}
 use borrow.Author.Needs.{needs}
 use Rattle.state.proofs.deciding.refused.Statement.{statement}
 use Rattle.state.proofs.deciding.refused.Tie as tie

@@ -5,7 +5,6 @@ use Rattle.state.specs.List.{listed}
 use Rattle.state.proofs.Clauses.{not-false, held, fails}
 use Rattle.state.proofs.Joining.{other-apart}
 use Rattle.state.proofs.Ends.{is-unended, is-ended}
-use native.Mathlib.Omega.{arith}
 use borrow.Author.Needs.{needs}
 use Rattle.state.proofs.ending.end.Statement.{statement}
 use Rattle.state.proofs.ending.end.Tie as tie

@@ -1,6 +1,5 @@
 -- `state::ending::not_ended` meets its contract.
 -- Assumes nothing.
-use native.Mathlib.Omega.{arith}
 use borrow.Author.Needs.{needs}
 use Rattle.state.proofs.ending.not_ended.Statement.{statement}
 use Rattle.state.proofs.ending.not_ended.Tie as tie

@@ -1,7 +1,6 @@
 -- `state::list::frames_among` meets its contract.
 -- Assumes nothing.
 use borrow.Author.Tests.{eq-eqb, ne-eqb, le-leb, lt-leb, lt-ltb, le-ltb}
-use mathlib.Core.Bool.{true, false}
 use Rattle.state.specs.List.{framesAmong}
 use Rattle.state.proofs.Clauses.{type-above}
 use Rattle.tables.specs.Marks.{highest}

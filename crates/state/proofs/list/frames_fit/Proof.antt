@@ -1,7 +1,7 @@
 -- `state::list::frames_fit` meets its contract.
 -- Assumes nothing.
 use Rattle.state.proofs.Clauses.{none-fit}
-use lib.Count.{ones, ones-le}
+use lib.Count.{ones-le}
 use Rattle.state.specs.List.{framesFit}
 use native.Mathlib.Omega.{arith}
 use borrow.Author.Needs.{needs}

@@ -1,10 +1,8 @@
 -- `state::list::has_begun` meets its contract.
 -- Assumes nothing.
 use borrow.Author.Tests.{eq-eqb, ne-eqb, le-leb, lt-leb, lt-ltb, le-ltb}
-use mathlib.Core.Bool.{true, false}
 use Rattle.state.specs.List.{begun}
 use Rattle.state.proofs.Clauses.{last-left, frames-left, slots-left}
-use native.Mathlib.Omega.{arith}
 use borrow.Author.Needs.{needs}
 use Rattle.state.proofs.list.has_begun.Statement.{statement}
 use Rattle.state.proofs.list.has_begun.Tie as tie

@@ -3,7 +3,6 @@
 use Rattle.state.specs.List.{listed}
 use Rattle.state.proofs.Clauses.{held, fails}
 use Rattle.state.proofs.Facts.{first-below}
-use native.Mathlib.Omega.{arith}
 use borrow.Author.Needs.{needs}
 use Rattle.state.proofs.list.listed.Statement.{statement}
 use Rattle.state.proofs.list.listed.Tie as tie

@@ -1,10 +1,8 @@
 -- `state::list::major_now` meets its contract.
 -- Assumes nothing.
 use borrow.Author.Tests.{eq-eqb, ne-eqb, le-leb, lt-leb, lt-ltb, le-ltb}
-use mathlib.Core.Bool.{true, false}
 use Rattle.state.specs.List.{majorNow}
 use Rattle.tables.specs.Marks.{highest}
-use native.Mathlib.Omega.{arith}
 use borrow.Author.Needs.{needs}
 use Rattle.state.proofs.list.major_now.Statement.{statement}
 use Rattle.state.proofs.list.major_now.Tie as tie

@@ -1,9 +1,7 @@
 -- `state::list::no_slot` meets its contract.
 -- Assumes nothing.
 use borrow.Author.Tests.{eq-eqb, ne-eqb, le-leb, lt-leb, lt-ltb, le-ltb}
-use mathlib.Core.Bool.{true, false}
 use Rattle.state.specs.List.{noSlot}
-use native.Mathlib.Omega.{arith}
 use borrow.Author.Needs.{needs}
 use Rattle.state.proofs.list.no_slot.Statement.{statement}
 use Rattle.state.proofs.list.no_slot.Tie as tie

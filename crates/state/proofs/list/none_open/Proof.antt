@@ -1,9 +1,7 @@
 -- `state::list::none_open` meets its contract.
 -- Assumes nothing.
 use borrow.Author.Tests.{eq-eqb, ne-eqb, le-leb, lt-leb, lt-ltb, le-ltb}
-use mathlib.Core.Bool.{true, false}
 use Rattle.state.specs.List.{noneOpen}
-use native.Mathlib.Omega.{arith}
 use borrow.Author.Needs.{needs}
 use Rattle.state.proofs.list.none_open.Statement.{statement}
 use Rattle.state.proofs.list.none_open.Tie as tie

@@ -1,11 +1,7 @@
 -- `state::list::others_fit` meets its contract.
 -- Assumes nothing.
-use borrow.Author.Tests.{eq-eqb, ne-eqb, le-leb, lt-leb, lt-ltb, le-ltb}
-use mathlib.Core.Bool.{true, false}
-use Rattle.state.specs.List.{othersFit}
 use Rattle.state.proofs.Clauses.{others-above, others-within}
 use native.Mathlib.Omega.{arith}
-use borrow.Author.Needs.{needs}
 use Rattle.state.proofs.list.others_fit.Statement.{statement}
 use Rattle.state.proofs.list.others_fit.Tie as tie
 

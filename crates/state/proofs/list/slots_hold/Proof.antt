@@ -1,6 +1,6 @@
 -- `state::list::slots_hold` meets its contract. The loop has tested the first i slots.
 -- Assumes nothing.
-use mathlib.Core.Path.{_≡_, refl, sym, _∙_}
+use mathlib.Core.Path.{_≡_, refl, sym}
 use mathlib.Core.Bool.{true}
 use Prim.Native.Nat.{_≤_, _-_}
 use Rattle.tables.specs.Upto.{upto}

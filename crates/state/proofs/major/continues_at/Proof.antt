@@ -1,9 +1,7 @@
 -- `state::major::continues_at` meets its contract.
 -- Assumes nothing.
 use borrow.Author.Tests.{eq-eqb, ne-eqb, le-leb, lt-leb, lt-ltb, le-ltb}
-use mathlib.Core.Bool.{true, false}
 use Rattle.state.specs.Major.{continues}
-use native.Mathlib.Omega.{arith}
 use borrow.Author.Needs.{needs}
 use Rattle.state.proofs.major.continues_at.Statement.{statement}
 use Rattle.state.proofs.major.continues_at.Tie as tie

@@ -1,10 +1,6 @@
 -- `state::major::major_report` meets its contract.
 -- Assumes nothing.
 use borrow.Author.Tests.{eq-eqb, ne-eqb, le-leb, lt-leb, lt-ltb, le-ltb}
-use mathlib.Core.Bool.{true, false}
-use Rattle.state.specs.Major.{majorReported}
-use Rattle.state.specs.Major.{noMajor}
-use native.Mathlib.Omega.{arith}
 use borrow.Author.Needs.{needs}
 use Rattle.state.proofs.major.major_report.Statement.{statement}
 use Rattle.state.proofs.major.major_report.Tie as tie

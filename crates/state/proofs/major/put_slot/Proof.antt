@@ -1,7 +1,6 @@
 -- `state::major::put_slot` meets its contract.
 -- Assumes nothing.
 use Rattle.state.proofs.Parts.{mark-fits, mag-fits, is-into, is-beside}
-use native.Mathlib.Omega.{arith}
 use borrow.Author.Needs.{needs}
 use Rattle.state.proofs.major.put_slot.Statement.{statement}
 use Rattle.state.proofs.major.put_slot.Tie as tie

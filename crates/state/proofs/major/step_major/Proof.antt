@@ -2,7 +2,6 @@
 -- Assumes nothing.
 use mathlib.Core.Path.{sym, _∙_}
 use Rattle.state.proofs.Parts.{is-stayed, is-turned, free-none}
-use native.Mathlib.Omega.{arith}
 use borrow.Author.Needs.{needs}
 use Rattle.state.proofs.major.step_major.Statement.{statement}
 use Rattle.state.proofs.major.step_major.Tie as tie
