@@ -2,7 +2,7 @@
 -- Assumes nothing.
 use mathlib.Core.Path.{_≡_, refl, sym, _∙_}
 use mathlib.Core.Bool.{Bool, true, false, not, _&&_, _||_, and-false}
-use Prim.Native.Nat.{ℕ, _+_, _-_, _/_, _^_, _<_, _≤_}
+use Prim.Native.Nat.{ℕ, _+_, _-_, _*_, _/_, _%_, _^_, _<_, _≤_}
 use native.Mathlib.Nat.{div-eq-of-lt, lt-of-lt-of-le}
 use native.Mathlib.Numerals.{add-one}
 use native.Mathlib.Omega.{arith}
@@ -10,10 +10,10 @@ use lib.Arith.{lt-of-le-ne}
 use lib.Count.{ones}
 use lib.Dec.{eqb, leb}
 use lib.Pow.{pow-mono}
-use borrow.Author.Tests.{eq-eqb, ne-eqb, le-leb, lt-leb, lt-ltb, leb-true, leb-false}
-use Rattle.tables.specs.Marks.{bitSet, highest}
+use borrow.Author.Tests.{eq-eqb, ne-eqb, eqb-true, eqb-false, le-leb, lt-leb, lt-ltb, leb-true, leb-false}
+use Rattle.tables.specs.Marks.{highest}
 use Rattle.tables.specs.Upto.{both, upto}
-use Rattle.state.specs.List.{framesAmong, framesFit, othersFit, slotTest, begun}
+use Rattle.state.specs.List.{framesAmong, framesFit, othersFit, magAmong, rangeKept, wordKept, slotTest, begun}
 use Rattle.state.specs.declared.State.{State}
 use Rattle.state.specs.declared.accumulation.Accumulation.{Accumulation}
 use Rattle.state.specs.declared.clock.Clock.{Clock}
@@ -48,32 +48,52 @@ pub others-within : (c : Clock) (a : Accumulation) → a .«last_count» ≤ c .
 unfolding othersFit
 others-within c a h = leb-less (a .others) (a .«last_count») (c .last) h
 
--- the four tests of a slot, from its marks, its range and its word
+-- the four tests of a slot, by its two bits, its range and its word
 module _ (slots mags range word i : ℕ) where
-  pub range-above : 7 < range → false ≡ slotTest slots mags range word i
+  abbrev held-bit : ℕ
+  held-bit = slots / 2 ^ i % 2
+
+  abbrev mag-bit : ℕ
+  mag-bit = mags / 2 ^ i % 2
+
+  pub mag-beside : held-bit < mag-bit → false ≡ slotTest slots mags range word i
   unfolding slotTest
-  range-above h = rw (lt-leb range 7 h) (sym (and-false (not (bitSet mags i) || bitSet slots i)))
+  mag-beside h = rw (eq-eqb mag-bit 1 (omega arith), ne-eqb held-bit 1 (λ e. omega arith))
 
-  pub mag-held : range ≤ 7 → bitSet mags i ≡ true → bitSet slots i ≡ slotTest slots mags range word i
-  unfolding slotTest
-  mag-held h e = rw (le-leb range 7 h, e) (go (bitSet slots i) (eqb word 0))
-    where
-      go : (b w : Bool) → b ≡ (b && (b || w))
-      go true w = refl
-      go false w = refl
+  module _ (h : mag-bit ≤ held-bit) where
+    among : magAmong slots mags i ≡ true
+    among = go (eqb mag-bit 1) refl
+      where
+        go : (t : Bool) → eqb mag-bit 1 ≡ t → (not t || eqb held-bit 1) ≡ true
+        go true t = rw (eq-eqb held-bit 1 (omega (arith, eqb-true mag-bit 1 t)))
+        go false t = refl
 
-  module _ (h : range ≤ 7) (e : bitSet mags i ≡ false) where
-    pub range-left : (range ≡ 0 → ⊥) → false ≡ slotTest slots mags range word i
+    pub range-above : 7 * mag-bit < range → false ≡ slotTest slots mags range word i
     unfolding slotTest
-    range-left z = rw (le-leb range 7 h, e, ne-eqb range 0 z)
+    range-above l = rw among (go (eqb mag-bit 1) refl)
+      where
+        go : (t : Bool) → eqb mag-bit 1 ≡ t → false ≡ (leb range 7 && ((t || eqb range 0) && wordKept slots word i))
+        go true t = rw (lt-leb range 7 (omega (arith, eqb-true mag-bit 1 t)))
+        go false t = rw (ne-eqb range 0 (λ e. omega arith)) (sym (and-false (leb range 7)))
 
-    pub slot-held : range ≡ 0 → bitSet slots i ≡ true → true ≡ slotTest slots mags range word i
+    pub word-fits : range ≤ 7 * mag-bit → word < 65536 → leb word (65535 * held-bit) ≡ slotTest slots mags range word i
     unfolding slotTest
-    slot-held z b = rw (le-leb range 7 h, e, eq-eqb range 0 z, b)
+    word-fits l b = rw (among, le-leb range 7 (omega arith), kept) (go (eqb held-bit 1) refl)
+      where
+        kept : rangeKept mags range i ≡ true
+        kept = part (eqb mag-bit 1) refl
+          where
+            part : (t : Bool) → eqb mag-bit 1 ≡ t → (t || eqb range 0) ≡ true
+            part true t = refl
+            part false t = let n : mag-bit ≡ 1 → ⊥ = eqb-false mag-bit 1 t in eq-eqb range 0 (omega arith)
 
-    pub slot-free : range ≡ 0 → bitSet slots i ≡ false → eqb word 0 ≡ slotTest slots mags range word i
-    unfolding slotTest
-    slot-free z b = rw (le-leb range 7 h, e, eq-eqb range 0 z, b)
+        go : (t : Bool) → eqb held-bit 1 ≡ t → leb word (65535 * held-bit) ≡ (t || eqb word 0)
+        go true t = le-leb word (65535 * held-bit) (omega (arith, eqb-true held-bit 1 t))
+        go false t = let n : held-bit ≡ 1 → ⊥ = eqb-false held-bit 1 t in zero-word (eqb word 0) refl (omega arith)
+          where
+            zero-word : (w : Bool) → eqb word 0 ≡ w → 65535 * held-bit ≡ 0 → leb word (65535 * held-bit) ≡ w
+            zero-word true w e = le-leb word (65535 * held-bit) (omega (arith, eqb-true word 0 w))
+            zero-word false w e = let m : word ≡ 0 → ⊥ = eqb-false word 0 w in lt-leb word (65535 * held-bit) (omega arith)
 
 -- until something is accepted
 module _ (s : State) (any : s .clock .any ≡ false) where

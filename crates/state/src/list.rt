@@ -59,25 +59,21 @@ fn others_fit(clock: Clock, a: Accumulation) -> bool
     a.others <= clock.last - a.last_count
 }
 
-// Slot i, below 16: its two marks, its range, its word. (It is handed these and not the frame, which would be copied.)
+// Slot i, below 16: its two marks, its range, its word. It is handed these and not the frame, which would be copied; and in a state
+// that passes no branch of it goes the other way, whatever is held.
 fn slot_holds(slots: u16, mag_slots: u16, range: u8, word: u16, i: usize) -> bool
     requires { ⌜ i < 16 ⌝ }
     ensures { λ b. ⌜ b ≡ slotTest slots «mag_slots» range word i ⌝ }
 {
-    let held = (slots >> i) % 2 == 1;
-    if 7 < range {
+    let held = (slots >> i) % 2;
+    let mag = (mag_slots >> i) % 2;
+    if held < mag {
         return false;
     }
-    if (mag_slots >> i) % 2 == 1 {
-        return held;
-    }
-    if range != 0 {
+    if 7 * mag < range as u16 {
         return false;
     }
-    if held {
-        return true;
-    }
-    word == 0
+    word <= 65535 * held
 }
 
 fn slots_hold(m: Major) -> bool

@@ -1,7 +1,6 @@
 -- `state::list::slot_holds` meets its contract.
 -- Assumes nothing.
-use borrow.Author.Tests.{eq-eqb, ne-eqb}
-use Rattle.state.proofs.Clauses.{range-above, mag-held, range-left, slot-held, slot-free}
+use Rattle.state.proofs.Clauses.{mag-beside, range-above, word-fits}
 use native.Mathlib.Omega.{arith}
 use borrow.Author.Needs.{needs}
 use Rattle.state.proofs.list.slot_holds.Statement.{statement}
@@ -13,28 +12,28 @@ cast-held c = search needs
 shr-held : tie.Need-shr-held
 shr-held c = search needs
 
+cast-mag : tie.Need-cast-mag
+cast-mag c = search needs
+
+shr-mag : tie.Need-shr-mag
+shr-mag c = search needs
+
 returns : tie.Need-returns
-returns c = let a = c .before .args in range-above (a .slots) (a .mag-slots) (a .range) (a .word) (a .i) (omega arith)
+returns c = let a = c .before .args in mag-beside (a .slots) (a .mag-slots) (a .range) (a .word) (a .i) (omega arith)
 
-cast-if2 : tie.Need-cast-if2
-cast-if2 c = search needs
-
-shr-if2 : tie.Need-shr-if2
-shr-if2 c = search needs
+mul-if2 : tie.Need-mul-if2
+mul-if2 c = omega arith
 
 returns-2 : tie.Need-returns-2
-returns-2 c = let a = c .before .before .args in mag-held (a .slots) (a .mag-slots) (a .range) (a .word) (a .i) (omega arith) (eq-eqb _ 1 (c .if2 .taken))
+returns-2 c = let a = c .before .before .args in range-above (a .slots) (a .mag-slots) (a .range) (a .word) (a .i) (omega arith) (omega arith)
+
+mul-result : tie.Need-mul-result
+mul-result c = omega arith
 
 returns-3 : tie.Need-returns-3
-returns-3 c = let a = c .before .before .before .args in range-left (a .slots) (a .mag-slots) (a .range) (a .word) (a .i) (omega arith) (ne-eqb _ 1 (c .before .if2 .left)) (c .if3 .taken)
-
-returns-4 : tie.Need-returns-4
-returns-4 c = let a = c .before .before .before .before .args in slot-held (a .slots) (a .mag-slots) (a .range) (a .word) (a .i) (omega arith) (ne-eqb _ 1 (c .before .before .if2 .left)) (c .before .if3 .left) (c .if4 .taken)
-
-returns-5 : tie.Need-returns-5
-returns-5 c = let a = c .before .before .before .before .args in slot-free (a .slots) (a .mag-slots) (a .range) (a .word) (a .i) (omega arith) (ne-eqb _ 1 (c .before .before .if2 .left)) (c .before .if3 .left) (c .if4 .left)
+returns-3 c = let a = c .before .before .args in word-fits (a .slots) (a .mag-slots) (a .range) (a .word) (a .i) (omega arith) (omega arith) (omega arith)
 
 pub slot-holds-spec : {M : Type 1} → statement M
 slot-holds-spec =
     tie.close
-    (tie.spec cast-held shr-held returns cast-if2 shr-if2 returns-2 returns-3 returns-4 returns-5)
+    (tie.spec cast-held shr-held cast-mag shr-mag returns mul-if2 returns-2 mul-result returns-3)
