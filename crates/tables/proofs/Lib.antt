@@ -4,3 +4,4 @@ pub mod Conds
 pub mod Single
 pub mod Order
 pub mod Marks
+pub mod Arms

@@ -1,13 +1,12 @@
 -- `carriage::numbers::numbers_of` meets its contract: each arm is its row of the printed table.
 -- Assumes nothing.
 use mathlib.Core.Path.{_≡_, sym, ap}
-use mathlib.Core.List.{[], _∷_}
-use Prim.Native.Nat.{ℕ, zero, suc, _≤_}
+use mathlib.Core.List.{[]}
+use Prim.Native.Nat.{ℕ, _≤_}
 use native.Mathlib.Omega.{arith}
-use lib.Arith.{lt-of-le-ne}
 use lib.ListN.{List·getD-eq-default}
-use types.Run.{OneOf}
 use Rattle.tables.specs.Build.{build}
+use Rattle.tables.proofs.Arms.{past-arms}
 use Rattle.carriage.specs.Carriage.{samplesIn, rows, rowOf, carries, none}
 use Rattle.carriage.specs.Numbers.{numbersOf}
 use Rattle.carriage.proofs.numbers.numbers_of.Statement.{statement}
@@ -15,15 +14,6 @@ use Rattle.carriage.proofs.numbers.numbers_of.Tie as tie
 
 row : (k t : ℕ) → t ≡ k → numbersOf k ≡ numbersOf t
 row k t e = ap numbersOf (sym e)
-
--- the last arm is told that t is none of those before
-abbrev NoneBelow : ℕ → ℕ → Type 0
-NoneBelow t zero = Unit
-NoneBelow t (suc n) = NoneBelow t n × (OneOf (n ∷ []) t → ⊥)
-
-none-below : (n t : ℕ) → NoneBelow t n → n ≤ t
-none-below zero t h = omega arith
-none-below (suc n) t h = omega (arith, none-below n t (h .0), lt-of-le-ne (none-below n t (h .0)) (λ e. h .1 (sym e)))
 
 above : (t : ℕ) → 36 ≤ t → numbersOf 36 ≡ numbersOf t
 unfolding numbersOf rows
@@ -72,4 +62,4 @@ numbers-of-spec =
     (λ c. row 33 (c .before .args .t) (c .match .keys34))
     (λ c. row 34 (c .before .args .t) (c .match .keys35))
     (λ c. row 35 (c .before .args .t) (c .match .keys36))
-    (λ c. above (c .before .args .t) (none-below 36 (c .before .args .t) (c .match .rest))))
+    (λ c. above (c .before .args .t) (past-arms 0 36 (c .before .args .t) (omega arith) (c .match .rest))))

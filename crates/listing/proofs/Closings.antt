@@ -1,0 +1,91 @@
+-- What closed, as lines: none where nothing did.
+-- Assumes nothing.
+use mathlib.Core.Path.{_≡_, refl, sym, ap, subst, _∙_}
+use mathlib.Core.Bool.{Bool, true, false, cond, not, _&&_}
+use mathlib.Core.List.{List, []}
+use Prim.Native.Nat.{ℕ, _+_, _*_, _^_, _<_, _≤_}
+use native.Mathlib.Omega.{arith}
+use lib.Count.{ones}
+use lib.Dec.{ltb}
+use lib.ListN.{length, length-append}
+use borrow.Author.Tests.{lt-ltb, le-ltb, not-true, not-false}
+use Rattle.state.specs.declared.accumulation.AccumulationReport.{AccumulationReport}
+use Rattle.state.specs.declared.major.MajorReport.{MajorReport}
+use Rattle.listing.specs.Text.{ascii, Put}
+use Rattle.listing.specs.Decimal.{digits}
+use Rattle.listing.specs.Lines.{lineSize, lineOf, frameLine, majorLine, accumLine, closedLines, closedSize}
+use Rattle.listing.proofs.Puts.{put-none}
+use Rattle.listing.proofs.Digits.{length-decimal}
+
+-- the longest line
+pub length-line : (word : List ℕ) (first frames cells : ℕ) → length word ≡ 5 → length (lineOf word first frames cells) ≤ lineSize
+unfolding lineOf
+length-line word first frames cells h =
+    let a = length-decimal first in
+    let b = length-decimal frames in
+    let c = length-decimal cells in
+    simp length-append (omega (arith, h, a, b, c))
+
+accum-open : (r : AccumulationReport) → r .closed ≡ false → accumLine r ≡ []
+unfolding accumLine
+accum-open r e = rw e refl
+
+accum-closed : (r : AccumulationReport) → r .closed ≡ true → accumLine r ≡ lineOf (ascii "accum") (r .first) (ones (r .held)) (83 * ones (r .held))
+unfolding accumLine
+accum-closed r e = rw e refl
+
+major-open : (r : MajorReport) → r .closed ≡ false → majorLine r ≡ []
+unfolding majorLine
+major-open r e = rw e refl
+
+major-past : (r : MajorReport) → r .closed ≡ true → 2 ^ 64 ≤ 16 * r .frame .number → majorLine r ≡ []
+unfolding majorLine
+major-past r e h = rw (e, le-ltb (16 * r .frame .number) (2 ^ 64) h) refl
+
+major-closed : (r : MajorReport) → r .closed ≡ true → 16 * r .frame .number < 2 ^ 64 → majorLine r ≡ frameLine (r .frame)
+unfolding majorLine
+major-closed r e h = rw (e, lt-ltb (16 * r .frame .number) (2 ^ 64) h) refl
+
+module _ (d : List ℕ) (at : ℕ) where
+  -- where nothing closed, or the line would hold a number past 64 bits, nothing is put
+  nothing : (text : List ℕ) → text ≡ [] → at ≤ length d → Put d at text d at
+  nothing text e h = subst (λ (t : List ℕ). Put d at t d at) (sym e) (put-none d at h)
+
+  pub accum-none : (r : AccumulationReport) → at ≤ length d → not (r .closed) ≡ true → Put d at (accumLine r) d at
+  accum-none r h e = nothing (accumLine r) (accum-open r (not-true (r .closed) e)) h
+
+  pub major-none : (r : MajorReport) → at ≤ length d → not (r .closed) ≡ true → Put d at (majorLine r) d at
+  major-none r h e = nothing (majorLine r) (major-open r (not-true (r .closed) e)) h
+
+  pub major-far : (r : MajorReport) → at ≤ length d → not (r .closed) ≡ false → 2 ^ 60 ≤ r .frame .number → Put d at (majorLine r) d at
+  major-far r h e l = nothing (majorLine r) (major-past r (not-false (r .closed) e) (omega arith)) h
+
+  -- else its line is
+  pub accum-put : (r : AccumulationReport) (e : List ℕ) (p : ℕ) → not (r .closed) ≡ false
+      → Put d at (lineOf (ascii "accum") (r .first) (ones (r .held)) (83 * ones (r .held))) e p → Put d at (accumLine r) e p
+  accum-put r e p c q = subst (λ (t : List ℕ). Put d at t e p) (sym (accum-closed r (not-false (r .closed) c))) q
+
+  pub major-put : (r : MajorReport) (e : List ℕ) (p : ℕ) → not (r .closed) ≡ false → r .frame .number < 2 ^ 60
+      → Put d at (lineOf (ascii "major") (16 * r .frame .number) (ones (r .frame .slots)) (54 * ones (r .frame .«mag_slots»))) e p
+      → Put d at (majorLine r) e p
+  unfolding frameLine
+  major-put r e p c l q = subst (λ (t : List ℕ). Put d at t e p) (sym (major-closed r (not-false (r .closed) c) (omega arith))) q
+
+length-accum : (r : AccumulationReport) (b : Bool) → r .closed ≡ b → length (accumLine r) ≤ lineSize
+length-accum r true e = subst (λ (t : List ℕ). length t ≤ lineSize) (sym (accum-closed r e)) (length-line (ascii "accum") (r .first) (ones (r .held)) (83 * ones (r .held)) refl)
+length-accum r false e = subst (λ (t : List ℕ). length t ≤ lineSize) (sym (accum-open r e)) (omega arith)
+
+length-frame : (r : MajorReport) (b c : Bool) → r .closed ≡ b → ltb (16 * r .frame .number) (2 ^ 64) ≡ c → length (majorLine r) ≤ lineSize
+unfolding majorLine frameLine
+length-frame r true true e f =
+    rw (e, f) (length-line (ascii "major") (16 * r .frame .number) (ones (r .frame .slots)) (54 * ones (r .frame .«mag_slots»)) refl)
+length-frame r true false e f = rw (e, f) (omega arith)
+length-frame r false c e f = rw e (omega arith)
+
+pub length-major : (r : MajorReport) → length (majorLine r) ≤ lineSize
+length-major r = length-frame r (r .closed) (ltb (16 * r .frame .number) (2 ^ 64)) refl refl
+
+-- "no line too long for its buffer, whatever the counts"
+pub length-closed : (m : MajorReport) (a : AccumulationReport) → length (closedLines m a) ≤ closedSize
+unfolding closedLines
+length-closed m a = simp length-append (omega (arith, length-major m, length-accum a (a .closed) refl))

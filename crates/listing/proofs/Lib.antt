@@ -1,0 +1,5 @@
+pub mod Puts
+pub mod Digits
+pub mod Closings
+pub mod Words
+pub mod Single

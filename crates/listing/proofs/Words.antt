@@ -1,0 +1,110 @@
+-- 01's words for a number: each row of the table by its number, and none past it.
+-- Assumes nothing.
+use mathlib.Core.Path.{_≡_, refl, sym, ap, subst, _∙_}
+use mathlib.Core.Bool.{Bool, true, false}
+use mathlib.Core.List.{List, [], _∷_, _++_}
+use Prim.Native.Nat.{ℕ, _-_, _<_, _≤_}
+use Prim.Native.String.{String}
+use native.Mathlib.Omega.{arith}
+use lib.Dec.{T, eqb, ltb, leb, eqb→eq, leb→le}
+use lib.ListN.{length, getD, take, drop, length-append, List·getD-eq-default}
+use borrow.Author.Tests.{ltb-true, ltb-false}
+use Rattle.tables.specs.Upto.{both}
+use Rattle.tables.proofs.Upto.{both-left, both-right, upto-at}
+use Rattle.listing.specs.Text.{ascii, Put}
+use Rattle.listing.specs.Refusals.{words, wordsOf, wordsSize, place, placeSize, refusalLine, refusalSize}
+use Rattle.listing.proofs.Puts.{put-none}
+use Rattle.listing.proofs.Digits.{length-decimal}
+
+-- all of them, one after another, and where those of each number end
+abbrev pub joined : List String → List ℕ
+joined [] = []
+joined (w ∷ ws) = ascii w ++ joined ws
+
+unfoldable pub text : List ℕ
+text = joined words
+
+unfoldable pub ends : List ℕ
+ends = 0 ∷ 67 ∷ 83 ∷ 95 ∷ 124 ∷ 136 ∷ 150 ∷ 167 ∷ 195 ∷ 220 ∷ 238 ∷ 251 ∷ 324 ∷ 400 ∷ []
+
+abbrev pub endOf : ℕ → ℕ
+endOf k = getD ends k 0
+
+abbrev pub part : ℕ → List ℕ
+part k = take (endOf k - endOf (k - 1)) (drop (endOf (k - 1)) text)
+
+abbrev same : List ℕ → List ℕ → Bool
+same [] [] = true
+same [] (y ∷ ys) = false
+same (x ∷ xs) [] = false
+same (x ∷ xs) (y ∷ ys) = both (eqb x y) (same xs ys)
+
+same-is : (xs ys : List ℕ) → T (same xs ys) → xs ≡ ys
+same-is [] [] t = refl
+same-is [] (y ∷ ys) t = absurd t
+same-is (x ∷ xs) [] t = absurd t
+same-is (x ∷ xs) (y ∷ ys) t =
+    ap (λ (z : ℕ). z ∷ xs) (eqb→eq x y (both-left (eqb x y) (same xs ys) t))
+    ∙ ap (λ (zs : List ℕ). y ∷ zs) (same-is xs ys (both-right (eqb x y) (same xs ys) t))
+
+-- one test for every row
+abbrev starts : ℕ → Bool
+starts k = leb (endOf (k - 1)) (endOf k)
+
+abbrev stops : ℕ → Bool
+stops k = leb (endOf k) 400
+
+abbrev fits : ℕ → Bool
+fits k = leb (length (wordsOf k)) wordsSize
+
+abbrev tells : ℕ → Bool
+tells k = same (part k) (wordsOf k)
+
+abbrev all : ℕ → Bool
+all k = both (starts k) (both (stops k) (both (fits k) (tells k)))
+
+pub record Row (k : ℕ) : Type 0 where
+  pub from-to : endOf (k - 1) ≤ endOf k
+  pub inside : endOf k ≤ 400
+  pub short : length (wordsOf k) ≤ wordsSize
+  pub is : part k ≡ wordsOf k
+
+row-by : (k : ℕ) → T (all k) → Row k
+row-by k t =
+    let u = both-right (starts k) (both (stops k) (both (fits k) (tells k))) t in
+    let v = both-right (stops k) (both (fits k) (tells k)) u in
+    record {
+      from-to = leb→le (endOf (k - 1)) (endOf k) (both-left (starts k) (both (stops k) (both (fits k) (tells k))) t);
+      inside = leb→le (endOf k) 400 (both-left (stops k) (both (fits k) (tells k)) u);
+      short = leb→le (length (wordsOf k)) wordsSize (both-left (fits k) (tells k) v);
+      is = same-is (part k) (wordsOf k) (both-right (fits k) (tells k) v);
+    }
+
+pub row-of : (k : ℕ) → k < 14 → Row k
+unfolding text ends wordsOf both
+row-of k h = row-by k (upto-at all 14 tt k h)
+
+pub words-past : (rule : ℕ) → 14 ≤ rule → wordsOf rule ≡ []
+unfolding wordsOf
+words-past rule h = ap ascii (List·getD-eq-default words "" h)
+
+-- a number that has no row
+pub no-words : (rule : ℕ) (d : List ℕ) (at : ℕ) → at ≤ length d → wordsOf rule ≡ [] → Put d at (wordsOf rule) d at
+no-words rule d at h e = subst (λ (t : List ℕ). Put d at t d at) (sym e) (put-none d at h)
+
+-- the longest
+pub length-words : (rule : ℕ) → length (wordsOf rule) ≤ wordsSize
+length-words rule = go (ltb rule 14) refl
+  where
+    go : (b : Bool) → ltb rule 14 ≡ b → length (wordsOf rule) ≤ wordsSize
+    go true e = row-of rule (ltb-true rule 14 e) .short
+    go false e = subst (λ (t : List ℕ). length t ≤ wordsSize) (sym (words-past rule (ltb-false rule 14 e))) (omega arith)
+
+pub length-place : (n offset : ℕ) → length (place n offset) ≤ placeSize
+unfolding place
+length-place n offset = simp length-append (omega (arith, length-decimal n, length-decimal offset))
+
+-- "no line too long for its buffer, whatever the counts"
+pub length-refusal : (n offset rule : ℕ) → length (refusalLine n offset rule) ≤ refusalSize
+unfolding refusalLine
+length-refusal n offset rule = simp length-append (omega (arith, length-place n offset, length-decimal rule, length-words rule))

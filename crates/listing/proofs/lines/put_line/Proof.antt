@@ -1,0 +1,52 @@
+-- `listing::lines::put_line` meets its contract: a text after another.
+-- Assumes nothing.
+use Rattle.listing.specs.Lines.{lineOf}
+use Rattle.listing.proofs.Puts.{put-then}
+use Rattle.listing.proofs.Digits.{length-decimal}
+use native.Mathlib.Omega.{arith}
+use borrow.Author.Needs.{needs}
+use Rattle.listing.proofs.lines.put_line.Statement.{statement}
+use Rattle.listing.proofs.lines.put_line.Tie as tie
+
+put-requires : tie.Need-put-requires
+put-requires c κs = search needs
+
+put-number-requires : tie.Need-put-number-requires
+put-number-requires c κs = search needs
+
+put-number-requires-2 : tie.Need-put-number-requires-2
+put-number-requires-2 c κs = omega (arith, length-decimal (c .before .before .before .before .before .before .before .before .before .before .before .args .first))
+
+put-number-requires-3 : tie.Need-put-number-requires-3
+put-number-requires-3 c κs = omega (arith, length-decimal (c .before .before .before .before .before .before .before .before .before .before .before .before .before .before .before .args .first), length-decimal (c .before .before .before .before .before .before .before .before .before .before .before .before .before .before .before .args .frames))
+
+slice-aggregate-put : tie.Need-slice-aggregate-put
+slice-aggregate-put c = search needs
+
+put-requires-2 : tie.Need-put-requires-2
+put-requires-2 c κs = omega (arith, length-decimal (c .before .before .before .before .before .before .before .before .before .before .before .before .before .before .before .before .before .before .before .before .args .first), length-decimal (c .before .before .before .before .before .before .before .before .before .before .before .before .before .before .before .before .before .before .before .before .args .frames), length-decimal (c .before .before .before .before .before .before .before .before .before .before .before .before .before .before .before .before .before .before .before .before .args .cells))
+
+same-length : tie.Need-same-length
+same-length c = search needs
+
+returns : tie.Need-returns
+unfolding lineOf
+returns c =
+    let d = c .before .before .before .before .before .before .before .before .before .before .before .before .before .before .before .before .before .before .before .before .before .before .before .args in
+    let a = length-decimal (d .first) in
+    let b = length-decimal (d .frames) in
+    let e = length-decimal (d .cells) in
+    put-then (c .before .before .before .before .before .before .before .before .before .before .before .before .before .before .before .before .before .before .before .put .ensures) (omega arith) (put-then (c .before .before .before .before .before .before .before .before .before .before .before .before .before .before .before .put-number .ensures) (omega arith) (put-then (c .before .before .before .before .before .before .before .before .before .before .before .put-number2 .ensures) (omega arith) (put-then (c .before .before .before .before .before .before .before .put-number3 .ensures) (omega arith) (c .before .before .put2 .ensures))))
+
+pub put-line-spec : {M : Type 1} → statement M
+put-line-spec =
+    tie.close
+    (tie.spec
+    put-requires
+    put-number-requires
+    put-number-requires-2
+    put-number-requires-3
+    slice-aggregate-put
+    put-requires-2
+    same-length
+    returns)

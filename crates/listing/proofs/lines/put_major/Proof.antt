@@ -1,0 +1,60 @@
+-- `listing::lines::put_major` meets its contract.
+-- Assumes nothing.
+use lib.Count.{ones-le}
+use denote.Ref.{now}
+use Rattle.listing.proofs.Closings.{major-none, major-far, major-put}
+use native.Mathlib.Omega.{arith}
+use borrow.Author.Needs.{needs}
+use Rattle.listing.proofs.lines.put_major.Statement.{statement}
+use Rattle.listing.proofs.lines.put_major.Tie as tie
+
+returns : tie.Need-returns
+returns c =
+    let a = c .before .before .before .args in
+    major-none (now (a .out)) (a .at) (a .report) (omega (arith, c .before .before .before .pre)) (c .if1 .taken)
+
+returns-2 : tie.Need-returns-2
+returns-2 c =
+    let a = c .before .before .before .before .before .before .args in
+    major-far (now (a .out)) (a .at) (a .report) (omega (arith, c .before .before .before .before .before .before .pre)) (c .before .before .before .if1 .left) (c .if2 .taken)
+
+slice-aggregate-put-line : tie.Need-slice-aggregate-put-line
+slice-aggregate-put-line c = search needs
+
+mul-put-line : tie.Need-mul-put-line
+mul-put-line c = search needs
+
+cast-put-line : tie.Need-cast-put-line
+cast-put-line c = record { fits = omega (arith, ones-le 16 (c .before .before .before .before .before .before .before .before .before .args .report .frame .slots) (c .struct-known4 .given .1 .0 .fits)) }
+
+cast-put-line-2 : tie.Need-cast-put-line-2
+cast-put-line-2 c = record { fits = omega (arith, ones-le 16 (c .before .before .before .before .before .before .before .before .before .before .args .report .frame .«mag_slots») (c .struct-known5 .given .1 .1 .0 .fits)) }
+
+mul-put-line-2 : tie.Need-mul-put-line-2
+mul-put-line-2 c = record { fits = omega (arith, ones-le 16 (c .before .before .before .before .before .before .before .before .before .before .args .report .frame .«mag_slots») (c .struct-known5 .given .1 .1 .0 .fits)) }
+
+put-line-requires : tie.Need-put-line-requires
+put-line-requires c κs = search needs
+
+same-length : tie.Need-same-length
+same-length c = search needs
+
+returns-3 : tie.Need-returns-3
+returns-3 c =
+    let a = c .before .before .before .before .before .before .before .before .before .before .before .before .before .before .args in
+    major-put (now (a .out)) (a .at) (a .report) _ _ (c .before .before .before .before .before .before .before .before .before .before .before .if1 .left) (c .before .before .before .before .before .before .before .before .if2 .left) (c .before .before .put-line .ensures)
+
+pub put-major-spec : {M : Type 1} → statement M
+put-major-spec =
+    tie.close
+    (tie.spec
+    returns
+    returns-2
+    slice-aggregate-put-line
+    mul-put-line
+    cast-put-line
+    cast-put-line-2
+    mul-put-line-2
+    put-line-requires
+    same-length
+    returns-3)

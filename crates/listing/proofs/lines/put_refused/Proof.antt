@@ -1,0 +1,56 @@
+-- `listing::lines::put_refused` meets its contract.
+-- Assumes nothing.
+use denote.Ref.{now}
+use Rattle.listing.specs.Lines.{refusedLine}
+use Rattle.listing.proofs.Digits.{length-decimal}
+use Rattle.listing.proofs.Puts.{put-then, is-written, not-written, no-room, has-room}
+use native.Mathlib.Omega.{arith}
+use borrow.Author.Needs.{needs}
+use Rattle.listing.proofs.lines.put_refused.Statement.{statement}
+use Rattle.listing.proofs.lines.put_refused.Tie as tie
+
+has-room-requires : tie.Need-has-room-requires
+has-room-requires c κs = search needs
+
+returns : tie.Need-returns
+returns c =
+    let a = c .before .before .before .args in
+    not-written 29 (refusedLine (a .refused)) (now (a .out)) (a .at) (no-room (now (a .out)) (a .at) 29 _ (c .before .has-room .ensures) (c .if1 .taken))
+
+slice-aggregate-put : tie.Need-slice-aggregate-put
+slice-aggregate-put c = search needs
+
+put-requires : tie.Need-put-requires
+put-requires c κs = omega (arith, has-room (now (c .before .before .before .before .before .args .out)) (c .before .before .before .before .before .args .at) 29 _ (c .before .before .before .has-room .ensures) (c .before .before .if1 .left))
+
+put-number-requires : tie.Need-put-number-requires
+put-number-requires c κs = omega (arith, has-room (now (c .before .before .before .before .before .before .before .before .before .args .out)) (c .before .before .before .before .before .before .before .before .before .args .at) 29 _ (c .before .before .before .before .before .before .before .has-room .ensures) (c .before .before .before .before .before .before .if1 .left))
+
+slice-aggregate-put-2 : tie.Need-slice-aggregate-put-2
+slice-aggregate-put-2 c = search needs
+
+put-requires-2 : tie.Need-put-requires-2
+put-requires-2 c κs = omega (arith, length-decimal (c .before .before .before .before .before .before .before .before .before .before .before .before .before .before .args .refused), has-room (now (c .before .before .before .before .before .before .before .before .before .before .before .before .before .before .args .out)) (c .before .before .before .before .before .before .before .before .before .before .before .before .before .before .args .at) 29 _ (c .before .before .before .before .before .before .before .before .before .before .before .before .has-room .ensures) (c .before .before .before .before .before .before .before .before .before .before .before .if1 .left))
+
+same-length : tie.Need-same-length
+same-length c = search needs
+
+returns-2 : tie.Need-returns-2
+unfolding refusedLine
+returns-2 c =
+    let h = has-room (now (c .before .before .before .before .before .before .before .before .before .before .before .before .before .before .before .before .before .args .out)) (c .before .before .before .before .before .before .before .before .before .before .before .before .before .before .before .before .before .args .at) 29 _ (c .before .before .before .before .before .before .before .before .before .before .before .before .before .before .before .has-room .ensures) (c .before .before .before .before .before .before .before .before .before .before .before .before .before .before .if1 .left) in
+    is-written (put-then (c .before .before .before .before .before .before .before .before .before .before .before .put .ensures) (omega (arith, h)) (put-then (c .before .before .before .before .before .before .before .put-number .ensures) (omega (arith, h, length-decimal (c .before .before .before .before .before .before .before .before .before .before .before .before .before .before .before .before .before .args .refused))) (c .before .before .put2 .ensures))) 29 h
+
+pub put-refused-spec : {M : Type 1} → statement M
+put-refused-spec =
+    tie.close
+    (tie.spec
+    has-room-requires
+    returns
+    slice-aggregate-put
+    put-requires
+    put-number-requires
+    slice-aggregate-put-2
+    put-requires-2
+    same-length
+    returns-2)

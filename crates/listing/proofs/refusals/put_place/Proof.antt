@@ -1,0 +1,50 @@
+-- `listing::refusals::put_place` meets its contract.
+-- Assumes nothing.
+use denote.Ref.{now}
+use Rattle.listing.specs.Refusals.{place}
+use Rattle.listing.proofs.Digits.{length-decimal}
+use Rattle.listing.proofs.Puts.{put-then}
+use native.Mathlib.Omega.{arith}
+use borrow.Author.Needs.{needs}
+use Rattle.listing.proofs.refusals.put_place.Statement.{statement}
+use Rattle.listing.proofs.refusals.put_place.Tie as tie
+
+slice-aggregate-put : tie.Need-slice-aggregate-put
+slice-aggregate-put c = search needs
+
+put-requires : tie.Need-put-requires
+put-requires c κs = search needs
+
+put-number-requires : tie.Need-put-number-requires
+put-number-requires c κs = search needs
+
+slice-aggregate-put-2 : tie.Need-slice-aggregate-put-2
+slice-aggregate-put-2 c = search needs
+
+put-requires-2 : tie.Need-put-requires-2
+put-requires-2 c κs = omega (arith, length-decimal (c .before .before .before .before .before .before .before .before .before .before .before .before .args .number))
+
+put-number-requires-2 : tie.Need-put-number-requires-2
+put-number-requires-2 c κs = omega (arith, length-decimal (c .before .before .before .before .before .before .before .before .before .before .before .before .before .before .before .before .args .number))
+
+same-length : tie.Need-same-length
+same-length c = search needs
+
+returns : tie.Need-returns
+unfolding place
+returns c =
+    let n = length-decimal (c .before .before .before .before .before .before .before .before .before .before .before .before .before .before .before .before .before .before .before .args .number) in
+    put-then (c .before .before .before .before .before .before .before .before .before .before .before .before .before .before .before .put .ensures) (omega arith) (put-then (c .before .before .before .before .before .before .before .before .before .before .before .put-number .ensures) (omega arith) (put-then (c .before .before .before .before .before .before .put2 .ensures) (omega arith) (c .before .before .put-number2 .ensures)))
+
+pub put-place-spec : {M : Type 1} → statement M
+put-place-spec =
+    tie.close
+    (tie.spec
+    slice-aggregate-put
+    put-requires
+    put-number-requires
+    slice-aggregate-put-2
+    put-requires-2
+    put-number-requires-2
+    same-length
+    returns)

@@ -1,0 +1,86 @@
+-- `listing::refusals::put_words` meets its contract: the words of a number stand after those of the one before.
+-- Assumes nothing.
+use mathlib.Core.Path.{ap, subst}
+use mathlib.Core.List.{List}
+use Prim.Native.Nat.{ℕ}
+use lib.ListN.{length}
+use denote.Ref.{now}
+use Rattle.listing.specs.Text.{Put}
+use Rattle.listing.specs.Refusals.{wordsOf}
+use Rattle.listing.proofs.Words.{text, ends, row-of, words-past, no-words}
+use native.Mathlib.Omega.{arith}
+use borrow.Author.Needs.{needs}
+use Rattle.listing.proofs.refusals.put_words.Statement.{statement}
+use Rattle.listing.proofs.refusals.put_words.Tie as tie
+
+returns : tie.Need-returns
+unfolding wordsOf
+returns c =
+    let a = c .before .before .args in
+    no-words (a .rule) (now (a .out)) (a .at) (omega (arith, c .before .before .pre)) (ap wordsOf (c .if1 .taken))
+
+returns-2 : tie.Need-returns-2
+returns-2 c =
+    let a = c .before .before .before .args in
+    no-words (a .rule) (now (a .out)) (a .at) (omega (arith, c .before .before .before .pre)) (words-past (a .rule) (c .if2 .taken))
+
+sub-from : tie.Need-sub-from
+sub-from c = search needs
+
+mul-from : tie.Need-mul-from
+mul-from c = search needs
+
+array-read-from : tie.Need-array-read-from
+array-read-from c = search needs
+
+mul-to : tie.Need-mul-to
+mul-to c = search needs
+
+array-read-to : tie.Need-array-read-to
+array-read-to c = search needs
+
+sub-put : tie.Need-sub-put
+unfolding text ends
+sub-put c = row-of (c .before .before .before .args .rule) (omega (arith, c .if2 .left)) .from-to
+
+part-put-start : tie.Need-part-put-start
+unfolding text ends
+part-put-start c = row-of (c .before .before .before .before .args .rule) (omega (arith, c .before .if2 .left)) .from-to
+
+part-put-end : tie.Need-part-put-end
+unfolding text ends
+part-put-end c = row-of (c .before .before .before .before .args .rule) (omega (arith, c .before .if2 .left)) .inside
+
+put-requires : tie.Need-put-requires
+unfolding text ends
+put-requires c κs =
+    let r = row-of (c .before .before .before .before .before .before .args .rule) (omega (arith, c .before .before .before .if2 .left)) in
+    omega (arith, ap length (r .is), r .short)
+
+same-length : tie.Need-same-length
+same-length c = search needs
+
+returns-3 : tie.Need-returns-3
+unfolding text ends
+returns-3 c =
+    let a = c .before .before .before .before .before .before .before .before .before .args in
+    let q = c .before .before .put in
+    subst (λ (t : List ℕ). Put (now (a .out)) (a .at) t (q .last .1 .0) (q .result)) (row-of (c .before .before .before .before .before .before .before .before .before .args .rule) (omega (arith, c .before .before .before .before .before .before .if2 .left)) .is) (q .ensures)
+
+pub put-words-spec : {M : Type 1} → statement M
+put-words-spec =
+    tie.close
+    (tie.spec
+    returns
+    returns-2
+    sub-from
+    mul-from
+    array-read-from
+    mul-to
+    array-read-to
+    sub-put
+    part-put-start
+    part-put-end
+    put-requires
+    same-length
+    returns-3)

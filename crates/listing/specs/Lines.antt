@@ -1,0 +1,61 @@
+-- The lines of the listing (01, "The listing, whole").
+-- Assumes nothing.
+use Prim.Native.Nat.{ℕ, _+_, _*_, _^_}
+use mathlib.Core.Bool.{cond, _&&_}
+use mathlib.Core.List.{List, [], _∷_, _++_}
+use lib.Count.{ones}
+use lib.Dec.{ltb}
+use Rattle.carriage.specs.Carriage.{scienceSize}
+use Rattle.mag.specs.Samples.{samplesSize}
+use Rattle.state.specs.declared.accumulation.AccumulationReport.{AccumulationReport}
+use Rattle.state.specs.declared.major.Major.{Major}
+use Rattle.state.specs.declared.major.MajorReport.{MajorReport}
+use Rattle.listing.specs.Text.{ascii, space}
+use Rattle.listing.specs.Decimal.{decimal, digits}
+
+unfoldable pub header : List ℕ
+header = ascii "kind first frames cells\n"
+
+abbrev pub headerSize : ℕ
+headerSize = 24
+
+-- a space and the number, before the rest of a line
+abbrev pub spaced : ℕ → List ℕ → List ℕ
+spaced n rest = (space ∷ decimal n) ++ rest
+
+-- a word and three numbers
+unfoldable pub lineOf : List ℕ → ℕ → ℕ → ℕ → List ℕ
+lineOf word first frames cells = word ++ spaced first (spaced frames (spaced cells (ascii "\n")))
+
+abbrev pub wordSize : ℕ
+wordSize = 5
+
+-- the longest such line
+abbrev pub lineSize : ℕ
+lineSize = wordSize + 3 * (1 + digits) + 1
+
+-- "A major frame's first is 16 x its number, its frames the number of slots held, its cells 54 per MAG slot."
+unfoldable pub frameLine : Major → List ℕ
+frameLine m = lineOf (ascii "major") (16 * m .number) (ones (m .slots)) (samplesSize * ones (m .«mag_slots»))
+
+-- nothing where none closed; nor where its first would leave 64 bits, which no state that keeps 01's list leads to
+unfoldable pub majorLine : MajorReport → List ℕ
+majorLine r = cond (r .closed && ltb (16 * r .frame .number) (2 ^ 64)) (frameLine (r .frame)) []
+
+-- "for an accumulation, the count of its first frame"; the frames it holds, and their cells
+unfoldable pub accumLine : AccumulationReport → List ℕ
+accumLine r = cond (r .closed) (lineOf (ascii "accum") (r .first) (ones (r .held)) (scienceSize * ones (r .held))) []
+
+-- "One record may close both; the major frame is reported first."
+unfoldable pub closedLines : MajorReport → AccumulationReport → List ℕ
+closedLines m a = majorLine m ++ accumLine a
+
+abbrev pub closedSize : ℕ
+closedSize = 2 * lineSize
+
+-- "the last line counts them"
+unfoldable pub refusedLine : ℕ → List ℕ
+refusedLine n = ascii "refused" ++ spaced n (ascii "\n")
+
+abbrev pub refusedSize : ℕ
+refusedSize = 7 + (1 + digits) + 1

@@ -1,0 +1,50 @@
+-- What is said of a refused record: which it is, the number, and what the number means.
+-- Assumes nothing.
+use Prim.Native.Nat.{ℕ, _+_}
+use Prim.Native.String.{String}
+use mathlib.Core.Bool.{cond}
+use mathlib.Core.List.{List, [], _∷_, _++_}
+use lib.Dec.{eqb}
+use lib.ListN.{getD}
+use Rattle.listing.specs.Text.{ascii, space}
+use Rattle.listing.specs.Decimal.{decimal, digits}
+use Rattle.listing.specs.Lines.{spaced}
+
+-- 01, "Numbers a refused record gets": the second column, from no number, which has no words, and number 1 on
+abbrev pub words : List String
+words =
+    ""
+    ∷ "a lent buffer isn't of its size, or the state breaks the list below"
+    ∷ "length isn't 472"
+    ∷ "sync differs"
+    ∷ "version or spacecraft differs"
+    ∷ "rate differs"
+    ∷ "byte 9 isn't 0"
+    ∷ "day outside 1-366"
+    ∷ "millisecond above 86,399,999"
+    ∷ "a spare status bit is set"
+    ∷ "a flag is 00 or 11"
+    ∷ "type is 58-61"
+    ∷ "something was accepted before and the count isn't above the last accepted"
+    ∷ "a cell of this type is already held in the accumulation it joins (old guard)"
+    ∷ []
+
+unfoldable pub wordsOf : ℕ → List ℕ
+wordsOf rule = ascii (getD words rule "")
+
+-- the longest of them
+abbrev pub wordsSize : ℕ
+wordsSize = 76
+
+-- the record, counted from 0, and where it begins in the input
+unfoldable pub place : ℕ → ℕ → List ℕ
+place n offset = ascii "record" ++ spaced n (ascii " at byte" ++ (space ∷ decimal offset))
+
+abbrev pub placeSize : ℕ
+placeSize = 6 + (1 + digits) + 8 + (1 + digits)
+
+unfoldable pub refusalLine : ℕ → ℕ → ℕ → List ℕ
+refusalLine n offset rule = place n offset ++ (ascii ": refused with" ++ spaced rule (ascii ": " ++ (wordsOf rule ++ ascii "\n")))
+
+abbrev pub refusalSize : ℕ
+refusalSize = placeSize + 14 + (1 + digits) + 2 + wordsSize + 1

@@ -1,0 +1,33 @@
+-- Texts as bytes, and a text put into a buffer.
+-- Assumes nothing.
+use Prim.Native.Nat.{ℕ, zero, suc, _+_}
+use Prim.Native.Char.{code}
+use Prim.Native.String.{String, len, charAt, slice}
+use mathlib.Core.Bool.{cond}
+use mathlib.Core.List.{List, [], _∷_}
+use mathlib.Core.Path.{_≡_}
+use lib.Dec.{leb}
+use lib.ListN.{length}
+use Rattle.buffers.specs.Laying.{patch}
+
+-- the codes of the first n characters
+abbrev pub codes : ℕ → String → List ℕ
+codes zero s = []
+codes (suc n) s = code (charAt s 0) ∷ codes n (slice s 1 (len s))
+
+-- a text of ASCII characters, a byte each
+abbrev pub ascii : String → List ℕ
+ascii s = codes (len s) s
+
+abbrev pub space : ℕ
+space = 32
+
+-- a text put from place `at` on: what the buffer is then, and where the text ends
+pub record Put (d : List ℕ) (at : ℕ) (text : List ℕ) (d′ : List ℕ) (end : ℕ) : Type 0 where
+  pub content : d′ ≡ patch d at text
+  pub place : end ≡ at + length text
+
+-- the same where so many bytes are free from `at` on; else the buffer is as it was and the place is where it began
+pub record Written (room : ℕ) (text d : List ℕ) (at : ℕ) (d′ : List ℕ) (end : ℕ) : Type 0 where
+  pub content : d′ ≡ cond (leb (at + room) (length d)) (patch d at text) d
+  pub place : end ≡ cond (leb (at + room) (length d)) (at + length text) at

@@ -1,0 +1,87 @@
+// What is said of a refused record, beside the listing.
+ghost use Prim.Native.Nat.{_+_, _≤_};
+ghost use mathlib.Core.Path.{_≡_};
+ghost use lib.ListN.{length};
+ghost use Rattle.listing.specs.Text.{Put, Written};
+ghost use Rattle.listing.specs.Refusals.{wordsSize, wordsOf, placeSize, place, refusalSize, refusalLine};
+use crate::REFUSAL;
+use crate::decimal::put_number;
+use crate::text::has_room;
+use crate::text::put;
+
+// 01's words, those of each number after those of the one before, from 1 on; and where they end, from no number on.
+const WORDS: [u8; 400] = *b"\
+    a lent buffer isn't of its size, or the state breaks the list below\
+    length isn't 472\
+    sync differs\
+    version or spacecraft differs\
+    rate differs\
+    byte 9 isn't 0\
+    day outside 1-366\
+    millisecond above 86,399,999\
+    a spare status bit is set\
+    a flag is 00 or 11\
+    type is 58-61\
+    something was accepted before and the count isn't above the last accepted\
+    a cell of this type is already held in the accumulation it joins (old guard)";
+
+const ENDS: [usize; 14] = [
+    0,
+    67,
+    83,
+    95,
+    124,
+    136,
+    150,
+    167,
+    195,
+    220,
+    238,
+    251,
+    324,
+    400,
+];
+
+// 01's words for a number of its table; none for any other.
+fn put_words(rule: u8, out: &mut [u8], at: usize) -> usize
+    requires { ⌜ at + wordsSize ≤ length (now out) ⌝ }
+    ensures { λ r. ⌜ Put (now (out .entry)) at (wordsOf rule) (now (out .exit)) r ⌝ }
+{
+    let words = WORDS;
+    let ends = ENDS;
+    let number = rule as usize;
+    if number == 0 {
+        return at;
+    }
+    if number >= ends.len() {
+        return at;
+    }
+    let from = ends[number - 1];
+    let to = ends[number];
+    put(&words[from..to], out, at)
+}
+
+// Which record it is.
+fn put_place(number: u64, offset: u64, out: &mut [u8], at: usize) -> usize
+    requires { ⌜ at + placeSize ≤ length (now out) ⌝ }
+    ensures { λ r. ⌜ Put (now (out .entry)) at (place number offset) (now (out .exit)) r ⌝ }
+{
+    let after_word = put(b"record", out, at);
+    let after_record = put_number(number, out, after_word);
+    let after_at = put(b" at byte", out, after_record);
+    put_number(offset, out, after_at)
+}
+
+pub fn put_refusal(number: u64, offset: u64, rule: u8, out: &mut [u8], at: usize) -> usize
+    ensures { λ r. ⌜ Written refusalSize (refusalLine number offset rule) (now (out .entry)) at (now (out .exit)) r ⌝ }
+{
+    if !has_room(out.len(), at, REFUSAL) {
+        return at;
+    }
+    let after_place = put_place(number, offset, out, at);
+    let after_with = put(b": refused with", out, after_place);
+    let after_rule = put_number(rule as u64, out, after_with);
+    let after_colon = put(b": ", out, after_rule);
+    let after_words = put_words(rule, out, after_colon);
+    put(b"\n", out, after_words)
+}
