@@ -1,0 +1,155 @@
+-- What feeding comes to: where it rests, and that neither how often it is called nor where the input is cut makes a difference.
+-- Assumes nothing.
+use mathlib.Core.Path.{_≡_, refl, sym, ap, _∙_}
+use mathlib.Core.Bool.{Bool, true, false, cond, true≢false}
+use mathlib.Core.List.{List, _++_}
+use Prim.Native.Nat.{ℕ, zero, suc, _+_, _-_, _≤_}
+use native.Mathlib.Nat.{zero-add, suc-add, add-zero, add-assoc}
+use native.Mathlib.Omega.{arith}
+use lib.ListN.{length, take, drop, length-drop, length-append}
+use lib.Seq.{drop-drop, take-append-le, drop-append-le, take-at}
+use borrow.Author.Tests.{le-leb, lt-leb}
+use Rattle.record.specs.Layout.{size}
+use Rattle.buffers.specs.Laying.{patch}
+use Rattle.feed.specs.Cutting.{recordAt, isWhole, RestIs}
+use Rattle.feed.specs.Feeding.{begun, isQuiet, quiet, Desk, next, feedUpTo, wholeFrom, feedAll}
+use Rattle.feed.proofs.Cuts.{record-room, whole-fits, whole-left}
+use Rattle.feed.proofs.Rests.{between, in-order}
+use Rattle.feed.proofs.Turns.{loud, feed-more}
+
+module _ (bytes : List ℕ) where
+  -- where one is counted, a whole record begins
+  some-left : (n at : ℕ) → suc n ≤ wholeFrom bytes at → isWhole (length bytes) at ≡ true
+  unfolding isWhole
+  some-left n at h = le-leb (at + size) (length bytes) (omega arith)
+
+  rests : (n : ℕ) (d : Desk) → n ≡ wholeFrom bytes (d .fed .at) → quiet (feedUpTo n bytes d .fed) ≡ true → isWhole (length bytes) (feedUpTo n bytes d .fed .at) ≡ false
+  unfolding isWhole next
+  rests zero d e q = lt-leb (d .fed .at + size) (length bytes) (omega arith)
+  rests (suc n) d e q =
+      let w = some-left n (d .fed .at) (omega arith) in
+      go (quiet (d .fed)) refl (rests n (next bytes d) (omega (arith, whole-left bytes (d .fed .at) w))) q
+    where
+      go : (b : Bool) → quiet (d .fed) ≡ b
+          → (quiet (feedUpTo n bytes (next bytes d) .fed) ≡ true → isWhole (length bytes) (feedUpTo n bytes (next bytes d) .fed .at) ≡ false)
+          → quiet (cond b (feedUpTo n bytes (next bytes d)) d .fed) ≡ true
+          → isWhole (length bytes) (cond b (feedUpTo n bytes (next bytes d)) d .fed .at) ≡ false
+      go true b r k = r k
+      go false b r k = absurd (true≢false (sym k ∙ b))
+
+  -- where the last record had nothing to tell, no whole record is left
+  pub feed-rests : (d : Desk) → quiet (feedAll bytes d .fed) ≡ true → isWhole (length bytes) (feedAll bytes d .fed .at) ≡ false
+  unfolding feedAll
+  feed-rests d q = rests (wholeFrom bytes (d .fed .at)) d refl q
+
+  -- up to n records and then up to m more are up to n + m, also where one of the first has something to tell
+  pub feed-again : (n m : ℕ) (d : Desk) → feedUpTo (n + m) bytes d ≡ feedUpTo m bytes (feedUpTo n bytes d)
+  feed-again zero m d = rw zero-add
+  feed-again (suc n) m d = rw suc-add (go (quiet (d .fed)) refl (feed-again n m (next bytes d)))
+    where
+      go : (b : Bool) → quiet (d .fed) ≡ b
+          → feedUpTo (n + m) bytes (next bytes d) ≡ feedUpTo m bytes (feedUpTo n bytes (next bytes d))
+          → cond b (feedUpTo (n + m) bytes (next bytes d)) d ≡ feedUpTo m bytes (cond b (feedUpTo n bytes (next bytes d)) d)
+      go true b r = r
+      go false b r = sym (loud m bytes d b)
+
+  within : (n : ℕ) (d : Desk) → d .fed .at ≤ length bytes → feedUpTo n bytes d .fed .at ≤ length bytes
+  unfolding next
+  within zero d h = h
+  within (suc n) d h = go (quiet (d .fed)) (within n (next bytes d) (omega (arith, record-room bytes (d .fed .at))))
+    where
+      go : (b : Bool) → feedUpTo n bytes (next bytes d) .fed .at ≤ length bytes → cond b (feedUpTo n bytes (next bytes d)) d .fed .at ≤ length bytes
+      go true r = r
+      go false r = h
+
+  -- the place stays within the bytes
+  pub feed-within : (d : Desk) → d .fed .at ≤ length bytes → feedAll bytes d .fed .at ≤ length bytes
+  unfolding feedAll
+  feed-within d h = within (wholeFrom bytes (d .fed .at)) d h
+
+-- as many places further on
+abbrev pub moved : ℕ → Desk → Desk
+moved k d = record { fed = record { from = k + d .fed .from; at = k + d .fed .at; rule = d .fed .rule; state = d .fed .state; major = d .fed .major; accumulation = d .fed .accumulation }; lent = d .lent }
+
+-- begun there, with nothing told yet
+abbrev pub anew : Desk → ℕ → Desk
+anew d at = record { fed = begun (d .fed .state) at; lent = d .lent }
+
+anew-moved : (d : Desk) (k : ℕ) → anew d k ≡ moved k (anew d 0)
+anew-moved d k = rw (add-zero k)
+
+-- what was told last doesn't matter to what is fed next
+pub feed-anew : (bytes : List ℕ) (d : Desk) → quiet (d .fed) ≡ true → isWhole (length bytes) (d .fed .at) ≡ true → feedAll bytes d ≡ feedAll bytes (anew d (d .fed .at))
+unfolding next isQuiet
+feed-anew bytes d q w = feed-more bytes d w q ∙ sym (feed-more bytes (anew d (d .fed .at)) w refl)
+
+module _ (bytes : List ℕ) (k : ℕ) where
+  next-moved : (d : Desk) → next bytes (moved k d) ≡ moved k (next (drop k bytes) d)
+  unfolding next
+  next-moved d = rw (drop-drop (d .fed .at) k bytes, add-assoc k (d .fed .at) (length (recordAt bytes (k + d .fed .at))))
+
+  up-to-moved : (n : ℕ) (d : Desk) → feedUpTo n bytes (moved k d) ≡ moved k (feedUpTo n (drop k bytes) d)
+  up-to-moved zero d = refl
+  up-to-moved (suc n) d = go (quiet (d .fed)) (ap (feedUpTo n bytes) (next-moved d) ∙ up-to-moved n (next (drop k bytes) d))
+    where
+      go : (b : Bool) → feedUpTo n bytes (next bytes (moved k d)) ≡ moved k (feedUpTo n (drop k bytes) (next (drop k bytes) d))
+          → cond b (feedUpTo n bytes (next bytes (moved k d))) (moved k d) ≡ moved k (cond b (feedUpTo n (drop k bytes) (next (drop k bytes) d)) d)
+      go true r = r
+      go false r = refl
+
+  -- the first k bytes don't matter to what is fed from behind them
+  pub feed-moved : (d : Desk) → feedAll bytes (moved k d) ≡ moved k (feedAll (drop k bytes) d)
+  unfolding feedAll
+  feed-moved d =
+      let e : wholeFrom bytes (k + d .fed .at) ≡ wholeFrom (drop k bytes) (d .fed .at) = simp length-drop (omega arith) in
+      ap (λ (n : ℕ). feedUpTo n bytes (moved k d)) e ∙ up-to-moved (wholeFrom (drop k bytes) (d .fed .at)) d
+
+module _ (xs ys : List ℕ) where
+  next-front : (d : Desk) → isWhole (length xs) (d .fed .at) ≡ true → next (xs ++ ys) d ≡ next xs d
+  unfolding next
+  next-front d w =
+      let at = d .fed .at in
+      let h = whole-fits xs at w in
+      let e : recordAt (xs ++ ys) at ≡ recordAt xs at = ap (take size) (drop-append-le at xs ys (omega arith)) ∙ take-append-le size (drop at xs) ys (simp length-drop (omega arith)) in
+      rw e
+
+  up-to-front : (n : ℕ) (d : Desk) → n ≤ wholeFrom xs (d .fed .at) → feedAll (xs ++ ys) d ≡ feedAll (xs ++ ys) (feedUpTo n xs d)
+  unfolding isWhole next
+  up-to-front zero d h = refl
+  up-to-front (suc n) d h =
+      let w = some-left xs n (d .fed .at) h in
+      let v : isWhole (length (xs ++ ys)) (d .fed .at) ≡ true = le-leb (d .fed .at + size) (length (xs ++ ys)) (simp length-append (omega (arith, whole-fits xs (d .fed .at) w))) in
+      go (quiet (d .fed)) refl (λ q. feed-more (xs ++ ys) d v q ∙ ap (feedAll (xs ++ ys)) (next-front d w) ∙ up-to-front n (next xs d) (omega (arith, whole-left xs (d .fed .at) w)))
+    where
+      go : (b : Bool) → quiet (d .fed) ≡ b → (quiet (d .fed) ≡ true → feedAll (xs ++ ys) d ≡ feedAll (xs ++ ys) (feedUpTo n xs (next xs d)))
+          → feedAll (xs ++ ys) d ≡ feedAll (xs ++ ys) (cond b (feedUpTo n xs (next xs d)) d)
+      go true b r = r b
+      go false b r = refl
+
+  -- the whole records of a first part can be fed before the others are there
+  pub feed-cut : (d : Desk) → feedAll (xs ++ ys) d ≡ feedAll (xs ++ ys) (feedAll xs d)
+  unfolding feedAll
+  feed-cut d = up-to-front (wholeFrom xs (d .fed .at)) d (omega arith)
+
+  -- what is left of a first part can then be put to the front, and the others behind it
+  pub feed-refilled : (d : Desk) → d .fed .at ≤ length xs → quiet (feedAll xs d .fed) ≡ true
+      → isWhole (length (xs ++ ys)) (feedAll xs d .fed .at) ≡ true
+      → feedAll (xs ++ ys) d ≡ moved (feedAll xs d .fed .at) (feedAll (drop (feedAll xs d .fed .at) xs ++ ys) (anew (feedAll xs d) 0))
+  feed-refilled d h q w =
+      let e = feedAll xs d in
+      let p = e .fed .at in
+      feed-cut d
+      ∙ feed-anew (xs ++ ys) e q w
+      ∙ ap (feedAll (xs ++ ys)) (anew-moved e p)
+      ∙ feed-moved (xs ++ ys) p (anew e 0)
+      ∙ ap (λ (b : List ℕ). moved p (feedAll b (anew e 0))) (drop-append-le p xs ys (feed-within xs d h))
+
+-- what came to the front are the bytes that stood between the places
+pub rest-in-front : (bytes : List ℕ) (from to : ℕ) (b : List ℕ) (n : ℕ) → from ≤ to → to ≤ length bytes → RestIs bytes from to b n → take n b ≡ take (to - from) (drop from bytes)
+unfolding patch
+rest-in-front bytes from to b n h l is =
+    let s = take (to - from) (drop from bytes) in
+    let o = in-order bytes from to l h in
+    let c : b ≡ patch bytes 0 s = is .content ∙ rw o in
+    let k : n ≡ to - from = is .number ∙ rw o in
+    rw (c, k) (take-at s (drop (0 + length s) bytes) (to - from) (between bytes from (to - from) (omega arith)))

@@ -1,0 +1,5 @@
+pub mod Cuts
+pub mod Rests
+pub mod Turns
+pub mod Laws
+pub mod Single

@@ -1,0 +1,108 @@
+-- `feed::feeding::feed` meets its contract. After each turn what is left to do comes to the same end, with one whole record fewer.
+-- Assumes nothing.
+use mathlib.Core.Path.{_≡_, refl, sym, _∙_}
+use lib.ListN.{length}
+use denote.Ref.{now}
+use Rattle.feed.specs.Feeding.{feedAll, desk, wholeFrom}
+use Rattle.feed.proofs.Turns.{turn, fewer, ended-loud, ended-none}
+use borrow.Author.Needs.{needs}
+use Rattle.feed.proofs.feeding.feed.Statement.{statement}
+use Rattle.feed.proofs.feeding.feed.Tie as tie
+
+abbrev Inv-loop : tie.InvT-loop
+Inv-loop open-cells₀ finished-cells₀ open-samples₀ finished-samples₀ bytes at fed₀ open-cells finished-cells open-samples finished-samples fed =
+    (feedAll bytes (desk fed₀ open-cells₀ finished-cells₀ open-samples₀ finished-samples₀) ≡ feedAll bytes (desk fed open-cells finished-cells open-samples finished-samples))
+    × (length open-cells ≡ length open-cells₀) × (length finished-cells ≡ length finished-cells₀) × (length open-samples ≡ length open-samples₀) × (length finished-samples ≡ length finished-samples₀)
+
+abbrev μ-loop : tie.MeasureT-loop
+μ-loop open-cells₀ finished-cells₀ open-samples₀ finished-samples₀ bytes at fed₀ open-cells finished-cells open-samples finished-samples fed =
+    wholeFrom bytes (fed .at)
+
+begin-requires : tie.Need-begin-requires Inv-loop μ-loop
+begin-requires c κs = search needs
+
+loop-holds : tie.Need-loop-holds Inv-loop μ-loop
+loop-holds c = (refl, refl, refl, refl, refl)
+
+is-whole-requires : tie.Need-is-whole-requires Inv-loop μ-loop
+is-whole-requires c κs = search needs
+
+is-quiet-requires : tie.Need-is-quiet-requires Inv-loop μ-loop
+is-quiet-requires c κs = search needs
+
+feed-one-requires : tie.Need-feed-one-requires Inv-loop μ-loop
+feed-one-requires c κs = search needs
+
+loop-less : tie.Need-loop-less Inv-loop μ-loop
+loop-less c =
+    let w = c .before .before .before .before .before .before .before .before .before .before .before .before .before in
+    let l = w .before .before .loop in
+    let a = w .before .before .before .before .before .before .before .args in
+    fewer (now (a .bytes)) (l .fed) (l .open-cells) (l .finished-cells) (l .open-samples) (l .finished-samples) (sym (w .before .is-whole .ensures) ∙ w .if1 .taken) (c .before .before .before .before .before .before .feed-one .ensures)
+
+loop-again : tie.Need-loop-again Inv-loop μ-loop
+loop-again c =
+    let q = c .before .before .before .before .before .before .before .before .before .before .before in
+    let w = q .before .before in
+    let l = w .before .before .loop in
+    let a = w .before .before .before .before .before .before .before .args in (
+      l .inv .0 ∙ turn (now (a .bytes)) (l .fed) (l .open-cells) (l .finished-cells) (l .open-samples) (l .finished-samples) (sym (w .before .is-whole .ensures) ∙ w .if1 .taken) (c .before .before .before .before .before .before .feed-one .ensures) (sym (q .before .is-quiet .ensures) ∙ q .if2 .taken),
+      search needs,
+      search needs,
+      search needs,
+      search needs,
+    )
+
+same-length : tie.Need-same-length Inv-loop μ-loop
+same-length c = search needs
+
+same-length-2 : tie.Need-same-length-2 Inv-loop μ-loop
+same-length-2 c = search needs
+
+same-length-3 : tie.Need-same-length-3 Inv-loop μ-loop
+same-length-3 c = search needs
+
+same-length-4 : tie.Need-same-length-4 Inv-loop μ-loop
+same-length-4 c = search needs
+
+returns : tie.Need-returns Inv-loop μ-loop
+returns c = let l = c .before .before .before .before in ended-loud (now (l .before .before .before .before .before .args .bytes)) _ (rw (l .before .begin .ensures) at (l .loop .inv .0)) (sym (c .before .is-quiet .ensures) ∙ c .if2 .left)
+
+same-length-5 : tie.Need-same-length-5 Inv-loop μ-loop
+same-length-5 c = search needs
+
+same-length-6 : tie.Need-same-length-6 Inv-loop μ-loop
+same-length-6 c = search needs
+
+same-length-7 : tie.Need-same-length-7 Inv-loop μ-loop
+same-length-7 c = search needs
+
+same-length-8 : tie.Need-same-length-8 Inv-loop μ-loop
+same-length-8 c = search needs
+
+returns-2 : tie.Need-returns-2 Inv-loop μ-loop
+returns-2 c = let l = c .before .before in ended-none (now (l .before .before .before .before .before .args .bytes)) _ (rw (l .before .begin .ensures) at (l .loop .inv .0)) (sym (c .before .is-whole .ensures) ∙ c .if1 .left)
+
+pub feed-spec : {M : Type 1} → statement M
+feed-spec =
+    tie.close
+    (tie.spec
+    Inv-loop
+    μ-loop
+    begin-requires
+    loop-holds
+    is-whole-requires
+    is-quiet-requires
+    feed-one-requires
+    loop-less
+    loop-again
+    same-length
+    same-length-2
+    same-length-3
+    same-length-4
+    returns
+    same-length-5
+    same-length-6
+    same-length-7
+    same-length-8
+    returns-2)

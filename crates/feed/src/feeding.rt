@@ -1,0 +1,129 @@
+// Whole records fed to the reader.
+ghost use mathlib.Core.Path.{_≡_};
+ghost use Rattle.state.specs.Deciding.{answerNumber};
+ghost use Rattle.feed.specs.Cutting.{isWhole};
+ghost use Rattle.feed.specs.Feeding.{begun, isQuiet, OneIs, FeedIs};
+use crate::cutting::cut;
+use crate::cutting::is_whole;
+use state::AccumulationReport;
+use state::Answer;
+use state::MajorReport;
+use state::State;
+
+// Where the last record taken began and where the next begins, the number that refused the last or 0, the state after it, and what
+// it closed.
+pub struct Fed {
+    pub from: usize,
+    pub at: usize,
+    pub rule: u8,
+    pub state: State,
+    pub major: MajorReport,
+    pub accumulation: AccumulationReport,
+}
+
+// None taken yet.
+fn begin(state: State, at: usize) -> Fed
+    ensures { λ f. ⌜ f ≡ begun state at ⌝ }
+{
+    Fed {
+        from: at,
+        at: at,
+        rule: 0,
+        state: state,
+        major: MajorReport {
+            closed: false,
+            frame: state::no_major(),
+        },
+        accumulation: AccumulationReport {
+            closed: false,
+            first: 0,
+            held: 0,
+        },
+    }
+}
+
+fn rule_of(answer: Answer) -> u8
+    ensures { λ n. ⌜ n ≡ answerNumber answer ⌝ }
+{
+    match answer {
+        Answer::Refused(n) => n,
+        Answer::Accepted(_) => 0,
+    }
+}
+
+// Was the last record accepted, and closed nothing?
+fn is_quiet(rule: u8, major_closed: bool, accumulation_closed: bool) -> bool
+    ensures { λ b. ⌜ b ≡ isQuiet rule «major_closed» «accumulation_closed» ⌝ }
+{
+    if rule != 0 {
+        return false;
+    }
+    if major_closed {
+        return false;
+    }
+    !accumulation_closed
+}
+
+// Takes the record that begins at place `at`, whole or not.
+pub fn feed_one(
+    state: State,
+    open_cells: &mut [u8],
+    finished_cells: &mut [u8],
+    open_samples: &mut [i16],
+    finished_samples: &mut [i16],
+    bytes: &[u8],
+    at: usize,
+) -> Fed
+    ensures { λ x. ⌜ OneIs state (now («open_cells» .entry)) (now («finished_cells» .entry)) (now («open_samples» .entry)) (now («finished_samples» .entry)) (now (bytes .entry)) at x (now («open_cells» .exit)) (now («finished_cells» .exit)) (now («open_samples» .exit)) (now («finished_samples» .exit)) ⌝ }
+{
+    let r = cut(bytes, at);
+    let stepped = reader::step(
+        state,
+        open_cells,
+        finished_cells,
+        open_samples,
+        finished_samples,
+        r,
+    );
+    let answer = stepped.answer;
+    let next = stepped.state;
+    let major = stepped.major;
+    let accumulation = stepped.accumulation;
+    Fed {
+        from: at,
+        at: at + r.len(),
+        rule: rule_of(answer),
+        state: next,
+        major: major,
+        accumulation: accumulation,
+    }
+}
+
+// Takes the whole records of `bytes` from place `at` on, until one is refused or closes something or none is left.
+pub fn feed(
+    state: State,
+    open_cells: &mut [u8],
+    finished_cells: &mut [u8],
+    open_samples: &mut [i16],
+    finished_samples: &mut [i16],
+    bytes: &[u8],
+    at: usize,
+) -> Fed
+    ensures { λ x. ⌜ FeedIs state (now («open_cells» .entry)) (now («finished_cells» .entry)) (now («open_samples» .entry)) (now («finished_samples» .entry)) (now (bytes .entry)) at x (now («open_cells» .exit)) (now («finished_cells» .exit)) (now («open_samples» .exit)) (now («finished_samples» .exit)) ⌝ }
+{
+    let mut fed = begin(state, at);
+    while is_whole(bytes.len(), fed.at)
+        && is_quiet(fed.rule, fed.major.closed, fed.accumulation.closed)
+    {
+        fed = feed_one(
+            fed.state,
+            open_cells,
+            finished_cells,
+            open_samples,
+            finished_samples,
+            bytes,
+            fed.at,
+        );
+    }
+    fed
+}
