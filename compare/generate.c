@@ -92,6 +92,20 @@ struct content generate_content(struct random *random)
     return content;
 }
 
+struct content generate_content_of(struct random *random, uint32_t count, uint8_t type)
+{
+    struct content content = generate_content(random);
+    content.count = count;
+    content.code = (uint8_t)(random_below(random, 4) << 6 | type);
+    return content;
+}
+
+uint8_t other_type(struct random *random)
+{
+    uint8_t type = (uint8_t)random_between(random, 36, 59);
+    return type <= 57 ? type : (uint8_t)(type + 4);
+}
+
 void generate_record(struct random *random, const struct content *content, uint8_t *record)
 {
     switch (random_below(random, 16)) {
@@ -116,6 +130,11 @@ void generate_record(struct random *random, const struct content *content, uint8
     put(record, LEVEL, 4, content->level);
     put(record, QUALITY, 4, content->quality);
     put(record, STATUS, 2, content->flags[0] * 16u + content->flags[1] * 4u + content->flags[2]);
+}
+
+void generate_set_count(uint8_t *record, uint32_t count)
+{
+    put(record, COUNT, 3, count);
 }
 
 /* ---- records that break a rule ---------------------------------------- */

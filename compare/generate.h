@@ -31,12 +31,19 @@ struct content {
     uint32_t quality;
 };
 
-/* Any content that passes rules 2 to 11. */
+/* Any content that passes rules 2 to 11; and any of one count and type. */
 struct content generate_content(struct random *random);
+struct content generate_content_of(struct random *random, uint32_t count, uint8_t type);
+
+/* Any type of an other frame: 36-57, 62, 63. */
+uint8_t other_type(struct random *random);
 
 /* Writes a record of GENERATE_RECORD bytes that passes rules 3 to 6, with that
  * content and any bytes where nothing is opened. */
 void generate_record(struct random *random, const struct content *content, uint8_t *record);
+
+/* Gives a record another count. */
+void generate_set_count(uint8_t *record, uint32_t count);
 
 /* The number of forms in which a rule can be broken. */
 uint32_t spoil_forms(unsigned rule);

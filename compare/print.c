@@ -78,15 +78,6 @@ static void print_listing(void)
 
 /* ---- the program ------------------------------------------------------ */
 
-static bool same_text(const char *one, const char *other)
-{
-    while (*one != '\0' && *one == *other) {
-        one++;
-        other++;
-    }
-    return *one == *other;
-}
-
 int main(int argc, char **argv)
 {
     uint64_t seed = GENERATE_SEED;

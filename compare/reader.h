@@ -63,9 +63,6 @@ void input_make(struct random *random, struct input *input, uint64_t count, uint
 /* Breaks a rule from 2 to 11. */
 void input_spoil(struct random *random, struct input *input, unsigned rule);
 
-/* Any type of an other frame: 36-57, 62, 63. */
-uint8_t other_type(struct random *random);
-
 /* ---- calls ------------------------------------------------------------ */
 
 /* All that is lent to the reader, from call to call. What the rooms are found with

@@ -5,6 +5,8 @@
 
 #include <stddef.h>
 
+int open(const char *name, int flags, ...);
+int close(int file);
 long read(int file, void *room, size_t length);
 long write(int file, const void *bytes, size_t length);
 _Noreturn void exit(int status);
@@ -30,6 +32,8 @@ int clock_gettime(int clock, struct timespec *time);
 #define MAP_PRIVATE 0x02
 #define MAP_ANONYMOUS 0x20
 #define MAP_FAILED ((void *)-1)
+
+#define O_RDONLY 0
 
 #define STANDARD_INPUT 0
 #define STANDARD_OUTPUT 1

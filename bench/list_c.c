@@ -1,0 +1,75 @@
+/* The listing (01, "The listing, whole") as a whole program over the step in C.
+ *   list_c [FILE] */
+#include "input.h"
+#include "step_c.h"
+
+#include "../compare/text.h"
+#include "../include/lpmag.h"
+
+static struct step_state state;
+static _Alignas(64) uint8_t open_cells[LPMAG_CELLS], finished_cells[LPMAG_CELLS];
+static _Alignas(64) int16_t open_samples[LPMAG_FRAME], finished_samples[LPMAG_FRAME];
+static uint64_t refused;
+
+static void print_line(const char *kind, uint64_t first, int frames, int cells)
+{
+    print_text(kind);
+    print_number(first);
+    print_text(" ");
+    print_number((uint64_t)frames);
+    print_text(" ");
+    print_number((uint64_t)cells);
+    print_text("\n");
+}
+
+static void print_major(const struct step_major *major)
+{
+    print_line("major ", 16 * major->number, __builtin_popcount(major->slots),
+               LPMAG_SAMPLES * __builtin_popcount(major->mag));
+}
+
+static void print_accumulation(uint64_t first, uint64_t held)
+{
+    int frames = __builtin_popcountll(held);
+    print_line("accum ", first, frames, LPMAG_SCIENCE * frames);
+}
+
+static void list_record(const uint8_t *record, size_t length)
+{
+    struct step_report report;
+    if (step_c(&state, open_cells, LPMAG_CELLS, finished_cells, LPMAG_CELLS, open_samples, LPMAG_FRAME,
+               finished_samples, LPMAG_FRAME, record, length, &report) != 0) {
+        refused++;
+        return;
+    }
+    if (report.major_closed)
+        print_major(&report.major);
+    if (report.accumulation_closed)
+        print_accumulation(report.first, report.held);
+}
+
+/* What is still open is handed out as it is. */
+static void list_end(void)
+{
+    if (state.major.slots != 0)
+        print_major(&state.major);
+    if (state.held != 0)
+        print_accumulation(state.first, state.held);
+    print_text("refused ");
+    print_number(refused);
+    print_text("\n");
+}
+
+int main(int argc, char **argv)
+{
+    static struct input input;
+    size_t length;
+    begin_input(&input, argc > 1 ? argv[1] : NULL);
+    print_text("kind first frames cells\n");
+    while ((length = next_records(&input)) > 0)
+        for (size_t at = 0; at < length; at += LPMAG_RECORD)
+            list_record(input.bytes + at, length - at < LPMAG_RECORD ? length - at : LPMAG_RECORD);
+    list_end();
+    print_flush();
+    return 0;
+}

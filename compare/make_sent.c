@@ -1,0 +1,129 @@
+/* Records as they are sent, and records that are refused. */
+#include "make.h"
+
+#include "text.h"
+
+#include <system.h>
+
+/* ---- records as they are sent ----------------------------------------- */
+
+static void make_record(struct sending *sending, uint8_t type, uint8_t *record)
+{
+    struct content content = generate_content_of(&sending->random, sending->count, type);
+    generate_record(&sending->random, &content, record);
+}
+
+void sending_begin(struct sending *sending, uint64_t seed, uint32_t count, uint8_t type)
+{
+    *sending = (struct sending){.random = {seed}, .type = type};
+    make_record(sending, type, sending->last);
+    sending->count = count;
+}
+
+static void send(struct sending *sending, uint8_t type)
+{
+    if (sending->count >= COUNTS)
+        fail(1, "the counts of a record don't reach so far");
+    make_record(sending, type, sending->last);
+    print_bytes(sending->last, GENERATE_RECORD);
+    sending->last_count = sending->count++;
+}
+
+void send_frames(struct sending *sending, uint32_t frames)
+{
+    for (; frames > 0; frames--) {
+        send(sending, sending->type);
+        sending->type = (sending->type + 1) % TYPES;
+    }
+}
+
+void send_others(struct sending *sending, uint32_t frames)
+{
+    for (; frames > 0; frames--)
+        send(sending, other_type(&sending->random));
+}
+
+void lose_frames(struct sending *sending, uint32_t frames)
+{
+    sending->count += frames;
+    sending->type = (uint8_t)((sending->type + frames) % TYPES);
+}
+
+void lose_others(struct sending *sending, uint32_t frames)
+{
+    sending->count += frames;
+}
+
+void lose_letter(struct sending *sending, char letter)
+{
+    if (letter == 'f' || letter == 'F')
+        lose_frames(sending, 1);
+    else
+        lose_others(sending, 1);
+}
+
+void send_letter(struct sending *sending, char letter)
+{
+    if (letter == 'f')
+        send_frames(sending, 1);
+    else if (letter == 'o')
+        send_others(sending, 1);
+    else
+        lose_letter(sending, letter);
+}
+
+/* ---- records that are refused ----------------------------------------- */
+
+/* The forms of rule 12: the last record once more, another one of its count, and
+ * ones of lower counts. */
+enum { AGAIN, SAME_COUNT, ONE_LOWER, LOWER, ZERO, LATE_FORMS };
+
+uint32_t forms_of(unsigned rule)
+{
+    return rule == LATE ? LATE_FORMS : spoil_forms(rule);
+}
+
+static uint32_t late_count(struct sending *sending, uint32_t form)
+{
+    uint32_t last = sending->last_count;
+    switch (form) {
+    case ONE_LOWER:
+        return last > 0 ? last - 1 : 0;
+    case LOWER:
+        return random_below(&sending->random, last + 1);
+    case ZERO:
+        return 0;
+    default:
+        return last;
+    }
+}
+
+static void break_rule(struct sending *sending, uint8_t *record, unsigned rule, uint32_t form)
+{
+    if (rule != LATE)
+        spoil_form(&sending->random, record, rule, form);
+    else if (form == AGAIN)
+        memcpy(record, sending->last, GENERATE_RECORD);
+    else
+        generate_set_count(record, late_count(sending, form));
+}
+
+void print_refused(struct sending *sending, unsigned rule, uint32_t form)
+{
+    uint8_t record[GENERATE_LONGEST];
+    make_record(sending, sending->type, record);
+    break_rule(sending, record, rule, form);
+    print_bytes(record, GENERATE_RECORD);
+}
+
+/* Rule 12 may put another record in place of this one, so it is broken first. */
+void print_refused_twice(struct sending *sending, unsigned rule, unsigned also)
+{
+    uint8_t record[GENERATE_LONGEST];
+    unsigned lower = rule < also ? rule : also;
+    unsigned higher = rule < also ? also : rule;
+    make_record(sending, sending->type, record);
+    break_rule(sending, record, higher, random_below(&sending->random, forms_of(higher)));
+    break_rule(sending, record, lower, random_below(&sending->random, forms_of(lower)));
+    print_bytes(record, GENERATE_RECORD);
+}

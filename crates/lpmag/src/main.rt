@@ -1,0 +1,118 @@
+// Prints the listing of the records in its input (01, "The listing, whole"): of standard input, or of the files that its arguments
+// name, their bytes laid end to end. It only reads, writes and says what failed: records are cut, read and listed by the proved
+// libraries.
+mod input;
+mod options;
+mod output;
+mod run;
+mod said;
+
+use options::Options;
+use run::Run;
+use said::within;
+use state::State;
+
+// 256 records: large reads, and little enough to stay in a processor's second cache.
+const INPUT: usize = 120832;
+
+const OUTPUT: usize = 32768;
+
+// The run and the reader's state, when all whole records are taken.
+struct Read {
+    run: Run,
+    state: State,
+}
+
+// Takes all whole records of the input, or ends when nothing can be written any more. A proved loop has to end, and nothing says
+// that a file does: it counts its turns down, from a number that no run uses up.
+fn read_all(
+    run: Run,
+    state: State,
+    bytes: &mut [u8],
+    page: &mut [u8],
+    open_cells: &mut [u8],
+    finished_cells: &mut [u8],
+    open_samples: &mut [i16],
+    finished_samples: &mut [i16],
+) -> Read {
+    let mut run = run;
+    let mut state = state;
+    let mut turns = u64::MAX;
+    while turns > 0 && run.goes_on {
+        run = run::refill(run, bytes);
+        let have = within(run.have, bytes);
+        let fed = feed::feed(
+            state,
+            open_cells,
+            finished_cells,
+            open_samples,
+            finished_samples,
+            &bytes[..have],
+            run.at,
+        );
+        let next = fed.state;
+        state = next;
+        run = run::tell(run, fed, page);
+        turns -= 1;
+    }
+    Read {
+        run: run,
+        state: state,
+    }
+}
+
+// The listing of all that can be read; answers whether that was everything.
+fn list(options: Options) -> bool {
+    let mut bytes = [0u8; INPUT];
+    let mut page = [0u8; OUTPUT];
+    let mut open_cells = [0u8; cells::SIZE];
+    let mut finished_cells = [0u8; cells::SIZE];
+    let mut open_samples = [0i16; reader::SAMPLES];
+    let mut finished_samples = [0i16; reader::SAMPLES];
+    let begun = run::begin(options, &mut page);
+    let read = read_all(
+        begun,
+        state::fresh(),
+        &mut bytes,
+        &mut page,
+        &mut open_cells,
+        &mut finished_cells,
+        &mut open_samples,
+        &mut finished_samples,
+    );
+    let run = read.run;
+    let have = within(run.have, &bytes);
+    let rest = feed::feed_one(
+        read.state,
+        &mut open_cells,
+        &mut finished_cells,
+        &mut open_samples,
+        &mut finished_samples,
+        &bytes[..have],
+        run.at,
+    );
+    let tailed = run::tell_rest(run, rest, &mut page);
+    let finished = reader::finish(
+        read.state,
+        &mut open_cells,
+        &mut finished_cells,
+        &mut open_samples,
+        &mut finished_samples,
+    );
+    run::end(tailed, finished, &mut page)
+}
+
+fn main() {
+    let options = options::read();
+    if options.help {
+        said::explain();
+        return;
+    }
+    if options.unknown {
+        said::status(options.status, b"2");
+        return;
+    }
+    if !list(options) {
+        said::status(options.status, b"1");
+    }
+}

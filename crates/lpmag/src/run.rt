@@ -1,0 +1,122 @@
+// One listing, from its first line to its last.
+use crate::input;
+use crate::input::Source;
+use crate::options::Options;
+use crate::output;
+use crate::said;
+use crate::said::within;
+use feed::Fed;
+use state::Finished;
+
+// What goes on from record to record.
+pub struct Run {
+    // where the bytes come from
+    pub source: Source,
+    // how many are at hand, how far they are taken, and where the first of them stands in the whole input
+    pub have: usize,
+    pub at: usize,
+    pub begins: u64,
+    // how many bytes of the page are not yet written
+    pub made: usize,
+    pub refused: u64,
+    pub verbose: bool,
+    // Could all be written so far?
+    pub is_written: bool,
+    // Is there more to read, and somebody to list it for?
+    pub goes_on: bool,
+}
+
+pub(crate) fn begin(options: Options, page: &mut [u8]) -> Run {
+    let source = input::first(options.files);
+    Run {
+        source: source,
+        have: 0,
+        at: 0,
+        begins: 0,
+        made: listing::put_header(page, 0),
+        refused: 0,
+        verbose: options.verbose,
+        is_written: true,
+        goes_on: true,
+    }
+}
+
+// Once something couldn't be written nothing more is.
+fn write_page(run: Run, page: &[u8]) -> Run {
+    let mut run = run;
+    if run.is_written {
+        run.is_written = output::write(page, run.made);
+    }
+    run.made = 0;
+    run
+}
+
+fn make_room(run: Run, page: &[u8]) -> Run {
+    if !output::is_full(page, run.made) {
+        return run;
+    }
+    write_page(run, page)
+}
+
+// What the last record taken has to tell.
+pub(crate) fn tell(run: Run, fed: Fed, page: &mut [u8]) -> Run {
+    let mut run = make_room(run, page);
+    run.at = fed.at;
+    run.made = listing::put_closed(fed.major, fed.accumulation, page, run.made);
+    if fed.rule == 0 {
+        return run;
+    }
+    run.refused = std::num::wrapping_add_u64(run.refused, 1);
+    if run.verbose {
+        said::refusal(
+            std::num::wrapping_add_u64(run.begins, fed.from as u64),
+            fed.rule,
+        );
+    }
+    run
+}
+
+// The rest below a record comes to the front.
+fn keep_rest(run: Run, bytes: &mut [u8]) -> Run {
+    let mut run = run;
+    run.begins = std::num::wrapping_add_u64(run.begins, run.at as u64);
+    run.have = feed::keep_rest(bytes, run.at, run.have);
+    run.at = 0;
+    run
+}
+
+// Where no whole record is at hand any more, one read is made behind the rest: unless there is nobody to list it for.
+pub(crate) fn refill(run: Run, bytes: &mut [u8]) -> Run {
+    if feed::is_whole(run.have, run.at) {
+        return run;
+    }
+    let mut run = keep_rest(run, bytes);
+    if !run.is_written {
+        run.goes_on = false;
+        return run;
+    }
+    let have = within(run.have, bytes);
+    let input = input::read(run.source, &mut bytes[have..]);
+    let source = input.source;
+    run.source = source;
+    run.have = std::num::wrapping_add_usize(have, input.got);
+    run.goes_on = source.goes_on;
+    run
+}
+
+// "A short tail of the input is one record refused with 2." No byte is no record.
+pub(crate) fn tell_rest(run: Run, fed: Fed, page: &mut [u8]) -> Run {
+    if run.have == run.at {
+        return run;
+    }
+    tell(run, fed, page)
+}
+
+// What finish closes, and the last line. Answers whether all could be read and written.
+pub(crate) fn end(run: Run, finished: Finished, page: &mut [u8]) -> bool {
+    let mut run = make_room(run, page);
+    run.made = listing::put_closed(finished.major, finished.accumulation, page, run.made);
+    run.made = listing::put_refused(run.refused, page, run.made);
+    let ended = write_page(run, page);
+    ended.is_written && ended.source.is_read
+}
