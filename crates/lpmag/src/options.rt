@@ -24,22 +24,21 @@ fn letter(word: &[u8]) -> u8 {
 }
 
 fn with_word(options: Options, word: &[u8]) -> Options {
-    let is_file = is_file(word);
-    let letter = letter(word);
-    let is_verbose = !is_file && letter == b'v';
-    let is_status = !is_file && letter == b's';
-    let is_help = !is_file && letter == b'h';
-    let is_unknown = !is_file && !is_verbose && !is_status && !is_help;
-    if is_unknown {
-        said::unknown(word);
+    let mut options = options;
+    if is_file(word) {
+        options.files = true;
+        return options;
     }
-    Options {
-        verbose: options.verbose || is_verbose,
-        status: options.status || is_status,
-        help: options.help || is_help,
-        unknown: options.unknown || is_unknown,
-        files: options.files || is_file,
+    match letter(word) {
+        b'v' => options.verbose = true,
+        b's' => options.status = true,
+        b'h' => options.help = true,
+        _ => {
+            said::unknown(word);
+            options.unknown = true;
+        }
     }
+    options
 }
 
 fn with_argument(options: Options, i: usize) -> Options {
