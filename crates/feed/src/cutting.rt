@@ -1,7 +1,6 @@
 // How the input is cut into records: 472 bytes each, from its start on, and a shorter one at its end (01, "The listing, whole").
-ghost use Prim.Native.Nat.{_+_, _≤_, _<_};
+ghost use Prim.Native.Nat.{_+_, _<_};
 ghost use mathlib.Core.Path.{_≡_};
-ghost use lib.ListN.{length, take, drop};
 ghost use Rattle.feed.specs.Cutting.{CutIs, RestIs, isWhole};
 use record::Record;
 

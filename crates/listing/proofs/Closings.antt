@@ -1,9 +1,9 @@
 -- What closed, as lines: none where nothing did.
 -- Assumes nothing.
-use mathlib.Core.Path.{_≡_, refl, sym, ap, subst, _∙_}
-use mathlib.Core.Bool.{Bool, true, false, cond, not, _&&_}
+use mathlib.Core.Path.{_≡_, refl, sym, subst}
+use mathlib.Core.Bool.{Bool, true, false, not}
 use mathlib.Core.List.{List, []}
-use Prim.Native.Nat.{ℕ, _+_, _*_, _^_, _<_, _≤_}
+use Prim.Native.Nat.{ℕ, _*_, _^_, _<_, _≤_}
 use native.Mathlib.Omega.{arith}
 use lib.Count.{ones}
 use lib.Dec.{ltb}
@@ -12,7 +12,6 @@ use borrow.Author.Tests.{lt-ltb, le-ltb, not-true, not-false}
 use Rattle.state.specs.declared.accumulation.AccumulationReport.{AccumulationReport}
 use Rattle.state.specs.declared.major.MajorReport.{MajorReport}
 use Rattle.listing.specs.Text.{ascii, Put}
-use Rattle.listing.specs.Decimal.{digits}
 use Rattle.listing.specs.Lines.{lineSize, lineOf, frameLine, majorLine, accumLine, closedLines, closedSize}
 use Rattle.listing.proofs.Puts.{put-none}
 use Rattle.listing.proofs.Digits.{length-decimal}

@@ -2,7 +2,7 @@
 ghost use Prim.Native.Nat.{_+_, _≤_};
 ghost use mathlib.Core.List.{_∷_};
 ghost use mathlib.Core.Path.{_≡_};
-ghost use lib.ListN.{length, drop};
+ghost use lib.ListN.{length};
 ghost use Rattle.listing.specs.Text.{Put, space};
 ghost use Rattle.listing.specs.Decimal.{digits, decimal, Spelled};
 use crate::text::put;

@@ -1,6 +1,5 @@
 // What is said of a refused record, beside the listing.
 ghost use Prim.Native.Nat.{_+_, _≤_};
-ghost use mathlib.Core.Path.{_≡_};
 ghost use lib.ListN.{length};
 ghost use Rattle.listing.specs.Text.{Put, Written};
 ghost use Rattle.listing.specs.Refusals.{wordsSize, wordsOf, placeSize, place, refusalSize, refusalLine};

@@ -1,6 +1,5 @@
 // The program's arguments.
 use crate::said;
-use crate::said::within;
 
 pub struct Options {
     pub verbose: bool,

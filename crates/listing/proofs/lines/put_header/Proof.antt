@@ -3,7 +3,6 @@
 use denote.Ref.{now}
 use Rattle.listing.proofs.Puts.{is-written, not-written, no-room, has-room}
 use Rattle.listing.specs.Lines.{header}
-use native.Mathlib.Omega.{arith}
 use borrow.Author.Needs.{needs}
 use Rattle.listing.proofs.lines.put_header.Statement.{statement}
 use Rattle.listing.proofs.lines.put_header.Tie as tie

@@ -1,6 +1,5 @@
 -- `listing::refusals::put_place` meets its contract.
 -- Assumes nothing.
-use denote.Ref.{now}
 use Rattle.listing.specs.Refusals.{place}
 use Rattle.listing.proofs.Digits.{length-decimal}
 use Rattle.listing.proofs.Puts.{put-then}

@@ -2,7 +2,6 @@
 -- Assumes nothing.
 use Rattle.listing.proofs.Puts.{put-one}
 use denote.Ref.{now}
-use native.Mathlib.Omega.{arith}
 use borrow.Author.Needs.{needs}
 use Rattle.listing.proofs.text.put.Statement.{statement}
 use Rattle.listing.proofs.text.put.Tie as tie

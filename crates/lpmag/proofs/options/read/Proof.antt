@@ -1,7 +1,6 @@
 -- `lpmag::options::read` is safe and ends: each turn looks at one argument.
 -- Assumes nothing.
 use Prim.Native.Nat.{_-_}
-use native.Mathlib.Omega.{arith}
 use borrow.Author.Needs.{needs}
 use Rattle.lpmag.proofs.options.read.Statement.{statement}
 use Rattle.lpmag.proofs.options.read.Tie as tie

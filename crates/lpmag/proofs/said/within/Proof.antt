@@ -1,11 +1,10 @@
 -- `lpmag::said::within` meets its contract.
 -- Assumes nothing.
-use mathlib.Core.Path.{sym, refl}
+use mathlib.Core.Path.{sym}
 use lib.ListN.{length}
 use lib.Seq.{length-take-le}
 use denote.Ref.{now}
 use native.Mathlib.Omega.{arith}
-use borrow.Author.Needs.{needs}
 use Rattle.lpmag.proofs.said.within.Statement.{statement}
 use Rattle.lpmag.proofs.said.within.Tie as tie
 
