@@ -140,7 +140,7 @@ static void print_field(const uint8_t *major, const int16_t *samples, size_t slo
             give_up("there is no such field");
         if (number % 3 == 0)
             printf("\n%6zu", number / 3);
-        printf(" %15.9g", field);
+        printf(" %15.10g", field); /* all digits, at every range */
     }
     printf("\n");
 }
@@ -212,7 +212,7 @@ int main(int argc, char **argv)
     size_t length;
     char *end = "";
     walk.wanted = argc == 3 ? strtoul(argv[2], &end, 10) : 1;
-    if (argc < 2 || argc > 3 || walk.wanted == 0 || *end != '\0')
+    if (argc < 2 || argc > 3 || walk.wanted == 0 || *end != '\0' || (argc == 3 && argv[2][0] == '-'))
         give_up("usage: walk FILE [N], N a whole number from 1");
     FILE *file = fopen(argv[1], "rb");
     if (file == NULL)
@@ -231,5 +231,7 @@ int main(int argc, char **argv)
         give_up("no accumulation was handed out, or fewer than N");
     if (walk.majors < walk.wanted)
         give_up("no major frame was handed out, or fewer than N");
-    return fflush(stdout) == 0 ? 0 : 1;
+    if (fflush(stdout) != 0)
+        give_up("what was found can't be written");
+    return 0;
 }

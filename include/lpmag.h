@@ -6,6 +6,8 @@
  * room here. Rooms and numbers lent must not overlap each other or any other
  * argument. Every function answers for every input.
  *
+ * examples/walk.c is a whole program over these functions.
+ *
  * Papers: "01" is the rules for what is built, "000" the instrument's telemetry
  * format, "002" the archive label.
  */
@@ -219,7 +221,8 @@ uint8_t lpmag_angle(size_t anode, size_t phase);
  * report or a buffer is of another size, or the state is none or breaks 01's list;
  * 2 to 11 as lpmag_check; 12 when its count isn't above the last accepted; 13 when
  * its type is already held in the accumulation that it joins, which can't be from a
- * state that keeps the list. On a refusal nothing that was lent changes. An accepted record's report, LPMAG_REPORT bytes:
+ * state that keeps the list. On a refusal nothing that was lent changes. An accepted
+ * record's report, LPMAG_REPORT bytes:
  *    0-27    its fields, as lpmag_fields writes them
  *     28     LPMAG_OPENS, LPMAG_JOINS or LPMAG_NEITHER
  *   29-106   what it closed, LPMAG_CLOSED bytes

@@ -1,4 +1,4 @@
--- What feeding comes to: where it rests, and that neither how often it is called nor where the input is cut makes a difference.
+-- What feeding comes to: where it rests, and that where the input is cut makes no difference.
 -- Assumes nothing.
 use mathlib.Core.Path.{_≡_, refl, sym, ap, _∙_}
 use mathlib.Core.Bool.{Bool, true, false, cond, true≢false}
@@ -19,7 +19,7 @@ use Rattle.feed.proofs.Turns.{loud, feed-more}
 
 module _ (bytes : List ℕ) where
   -- where one is counted, a whole record begins
-  some-left : (n at : ℕ) → suc n ≤ wholeFrom bytes at → isWhole (length bytes) at ≡ true
+  pub some-left : (n at : ℕ) → suc n ≤ wholeFrom bytes at → isWhole (length bytes) at ≡ true
   unfolding isWhole
   some-left n at h = le-leb (at + size) (length bytes) (omega arith)
 

@@ -2,7 +2,7 @@
 -- Assumes nothing.
 use Prim.Native.Nat.{ℕ, zero, suc, _+_, _-_, _/_}
 use mathlib.Core.Bool.{Bool, cond, not, _&&_}
-use mathlib.Core.List.{List}
+use mathlib.Core.List.{List, [], _∷_}
 use mathlib.Core.Path.{_≡_}
 use lib.Dec.{eqb}
 use lib.IntN.{ℤ}
@@ -55,6 +55,15 @@ wholeFrom bytes at = (length bytes - at) / size
 
 unfoldable pub feedAll : List ℕ → Desk → Desk
 feedAll bytes d = feedUpTo (wholeFrom bytes (d .fed .at)) bytes d
+
+-- all that n records have to tell, in order
+abbrev pub toldIn : ℕ → List ℕ → Desk → List Fed
+toldIn zero bytes d = []
+toldIn (suc n) bytes d = cond (quiet (next bytes d .fed)) (toldIn n bytes (next bytes d)) (next bytes d .fed ∷ toldIn n bytes (next bytes d))
+
+-- and the whole records from the desk's place on
+unfoldable pub toldAll : List ℕ → Desk → List Fed
+toldAll bytes d = toldIn (wholeFrom bytes (d .fed .at)) bytes d
 
 abbrev pub desk : Fed → List ℕ → List ℕ → List ℤ → List ℤ → Desk
 desk f oc fc os fs = record { fed = f; lent = buffers oc fc os fs }

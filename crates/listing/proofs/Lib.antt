@@ -3,3 +3,4 @@ pub mod Digits
 pub mod Closings
 pub mod Words
 pub mod Single
+pub mod Example

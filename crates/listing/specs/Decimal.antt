@@ -11,7 +11,7 @@ use lib.ListN.{length, drop}
 abbrev pub digit : ℕ → ℕ
 digit d = 48 + d
 
--- a number below 10 is its digit; any other is what it is without its last digit, and then that: at most k digits
+-- the last k digits at most: of a number below 10 its digit; of any other those of its tenth part, rounded down, and then the last
 abbrev pub decimalIn : ℕ → ℕ → List ℕ
 decimalIn zero n = []
 decimalIn (suc k) n = cond (ltb n 10) (digit n ∷ []) (decimalIn k (n / 10) ++ (digit (n % 10) ∷ []))

@@ -39,6 +39,7 @@ unfoldable pub frameLine : Major → List ℕ
 frameLine m = lineOf (ascii "major") (16 * m .number) (ones (m .slots)) (samplesSize * ones (m .«mag_slots»))
 
 -- nothing where none closed; nor where its first would leave 64 bits, which no state that keeps 01's list leads to
+-- (`always-listed` in proofs/Closings.antt)
 unfoldable pub majorLine : MajorReport → List ℕ
 majorLine r = cond (r .closed && ltb (16 * r .frame .number) (2 ^ 64)) (frameLine (r .frame)) []
 

@@ -8,7 +8,7 @@ use Rattle.listing.specs.Text.{ascii, space}
 use Rattle.listing.specs.Decimal.{decimal, digits}
 use Rattle.listing.specs.Lines.{spaced}
 
--- 01, "Numbers a refused record gets": the second column, from no number, which has no words, and number 1 on
+-- 01, "Numbers a refused record gets": the second column, by the number; 0 is no number and has no words
 abbrev pub words : List String
 words =
     ""

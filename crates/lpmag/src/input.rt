@@ -8,9 +8,9 @@ pub struct Source {
     pub argument: usize,
     pub fd: i32,
     pub is_open: bool,
-    // Is there more to read? Could all be read so far?
+    // Is there a byte, or a file, still to come?
     pub goes_on: bool,
-    pub is_read: bool,
+    pub all_read: bool,
 }
 
 // The source after a read, and how many bytes came.
@@ -25,7 +25,7 @@ pub(crate) fn first(from_files: bool) -> Source {
         fd: STDIN_FILENO,
         is_open: !from_files,
         goes_on: true,
-        is_read: true,
+        all_read: true,
     }
 }
 
@@ -34,7 +34,7 @@ fn fail(source: Source, name: &[u8], what: &[u8]) -> Source {
     said::complain(name, what);
     let mut source = source;
     source.goes_on = false;
-    source.is_read = false;
+    source.all_read = false;
     source
 }
 

@@ -92,6 +92,7 @@ fn list(options: Options) -> bool {
         run.at,
     );
     let tailed = run::tell_rest(run, rest, &mut page);
+    // what is left is no record, and its refusal changed nothing
     let finished = reader::finish(
         read.state,
         &mut open_cells,
@@ -104,15 +105,16 @@ fn list(options: Options) -> bool {
 
 fn main() {
     let options = options::read();
-    if options.help {
-        said::explain();
-        return;
-    }
     if options.unknown {
         said::status(options.status, b"2");
         return;
     }
-    if !list(options) {
+    let is_done = if options.help {
+        said::explain()
+    } else {
+        list(options)
+    };
+    if !is_done {
         said::status(options.status, b"1");
     }
 }

@@ -3,17 +3,22 @@ use crate::said;
 use crate::said::within;
 use libc::STDOUT_FILENO;
 
-// Whether all of the page's first bytes could be written.
-pub(crate) fn write(page: &[u8], made: usize) -> bool {
-    let end = within(made, page);
-    let is_written = io::write_all(STDOUT_FILENO, &page[..end]);
-    if !is_written {
+// Answers whether all could be written, and says so if not.
+pub(crate) fn write_text(text: &[u8]) -> bool {
+    let all_written = io::write_all(STDOUT_FILENO, text);
+    if !all_written {
         said::complain(b"standard output", b" could not be written");
     }
-    is_written
+    all_written
 }
 
-// Is there no room for what one record can close, or for what is left at the end?
+// The same of the page's first bytes.
+pub(crate) fn write(page: &[u8], made: usize) -> bool {
+    let end = within(made, page);
+    write_text(&page[..end])
+}
+
+// Is there too little room for what one record can close, and the last line after it?
 pub(crate) fn is_full(page: &[u8], made: usize) -> bool {
     page.len() - within(made, page) < listing::CLOSED + listing::REFUSED
 }

@@ -20,8 +20,7 @@ pub struct Run {
     pub made: usize,
     pub refused: u64,
     pub verbose: bool,
-    // Could all be written so far?
-    pub is_written: bool,
+    pub all_written: bool,
     // Is there more to read, and somebody to list it for?
     pub goes_on: bool,
 }
@@ -36,16 +35,17 @@ pub(crate) fn begin(options: Options, page: &mut [u8]) -> Run {
         made: listing::put_header(page, 0),
         refused: 0,
         verbose: options.verbose,
-        is_written: true,
+        all_written: true,
         goes_on: true,
     }
 }
 
-// Once something couldn't be written nothing more is.
+// Once something couldn't be written nothing more is, and nothing more is read.
 fn write_page(run: Run, page: &[u8]) -> Run {
     let mut run = run;
-    if run.is_written {
-        run.is_written = output::write(page, run.made);
+    if run.all_written && !output::write(page, run.made) {
+        run.all_written = false;
+        run.goes_on = false;
     }
     run.made = 0;
     run
@@ -62,6 +62,9 @@ fn make_room(run: Run, page: &[u8]) -> Run {
 pub(crate) fn tell(run: Run, fed: Fed, page: &mut [u8]) -> Run {
     let mut run = make_room(run, page);
     run.at = fed.at;
+    if !run.all_written {
+        return run;
+    }
     run.made = listing::put_closed(fed.major, fed.accumulation, page, run.made);
     if fed.rule == 0 {
         return run;
@@ -85,16 +88,12 @@ fn keep_rest(run: Run, bytes: &mut [u8]) -> Run {
     run
 }
 
-// Where no whole record is at hand any more, one read is made behind the rest: unless there is nobody to list it for.
+// Where no whole record is at hand any more, one read is made behind the rest.
 pub(crate) fn refill(run: Run, bytes: &mut [u8]) -> Run {
     if feed::is_whole(run.have, run.at) {
         return run;
     }
     let mut run = keep_rest(run, bytes);
-    if !run.is_written {
-        run.goes_on = false;
-        return run;
-    }
     let have = within(run.have, bytes);
     let input = input::read(run.source, &mut bytes[have..]);
     let source = input.source;
@@ -118,5 +117,5 @@ pub(crate) fn end(run: Run, finished: Finished, page: &mut [u8]) -> bool {
     run.made = listing::put_closed(finished.major, finished.accumulation, page, run.made);
     run.made = listing::put_refused(run.refused, page, run.made);
     let ended = write_page(run, page);
-    ended.is_written && ended.source.is_read
+    ended.all_written && ended.source.all_read
 }

@@ -1,14 +1,14 @@
 // What the program says beside the listing.
 ghost use Rattle.io.specs.Counts.{Counts};
+use crate::output;
 use libc::STDERR_FILENO;
-use libc::STDOUT_FILENO;
 
 // Room for a name of PATH_MAX bytes and the words around it.
 const SENTENCE: usize = 4352;
 
-pub(crate) fn explain() {
-    io::write_all(
-        STDOUT_FILENO,
+// Answers whether it could be written.
+pub(crate) fn explain() -> bool {
+    output::write_text(
         b"lpmag [-v] [FILE]...
 
 Reads records of 472 bytes of Lunar Prospector's merged file, each a 2-second
@@ -31,9 +31,9 @@ The listing, on standard output:
 
 A rest below 472 bytes at the end of the input is one record, refused with 2. A
 file that can't be opened or read ends the input there, and is named on standard
-error. A file whose name begins with - is named as ./-.
+error. A file whose name begins with - is named as ./-NAME.
 ",
-    );
+    )
 }
 
 // errno's text follows.
