@@ -92,7 +92,7 @@ fn list(options: Options) -> bool {
         run.at,
     );
     let tailed = run::tell_rest(run, rest, &mut page);
-    // what is left is no record, and its refusal changed nothing
+    // from the state before the rest: that is refused, unless output failed, and then nothing more is printed
     let finished = reader::finish(
         read.state,
         &mut open_cells,

@@ -15,16 +15,22 @@ put-number-requires : tie.Need-put-number-requires
 put-number-requires c κs = search needs
 
 put-number-requires-2 : tie.Need-put-number-requires-2
-put-number-requires-2 c κs = omega (arith, length-decimal (c .before .before .before .before .before .before .before .before .before .before .before .args .first))
+put-number-requires-2 c κs =
+    let a = c .before .before .before .before .before .before .before .before .before .before .before .args in
+    omega (arith, length-decimal (a .first))
 
 put-number-requires-3 : tie.Need-put-number-requires-3
-put-number-requires-3 c κs = omega (arith, length-decimal (c .before .before .before .before .before .before .before .before .before .before .before .before .before .before .before .args .first), length-decimal (c .before .before .before .before .before .before .before .before .before .before .before .before .before .before .before .args .frames))
+put-number-requires-3 c κs =
+    let a = c .before .before .before .before .before .before .before .before .before .before .before .before .before .before .before .args in
+    omega (arith, length-decimal (a .first), length-decimal (a .frames))
 
 slice-aggregate-put : tie.Need-slice-aggregate-put
 slice-aggregate-put c = search needs
 
 put-requires-2 : tie.Need-put-requires-2
-put-requires-2 c κs = omega (arith, length-decimal (c .before .before .before .before .before .before .before .before .before .before .before .before .before .before .before .before .before .before .before .before .args .first), length-decimal (c .before .before .before .before .before .before .before .before .before .before .before .before .before .before .before .before .before .before .before .before .args .frames), length-decimal (c .before .before .before .before .before .before .before .before .before .before .before .before .before .before .before .before .before .before .before .before .args .cells))
+put-requires-2 c κs =
+    let a = c .before .before .before .before .before .before .before .before .before .before .before .before .before .before .before .before .before .before .before .before .args in
+    omega (arith, length-decimal (a .first), length-decimal (a .frames), length-decimal (a .cells))
 
 same-length : tie.Need-same-length
 same-length c = search needs
@@ -32,11 +38,15 @@ same-length c = search needs
 returns : tie.Need-returns
 unfolding lineOf
 returns c =
-    let d = c .before .before .before .before .before .before .before .before .before .before .before .before .before .before .before .before .before .before .before .before .before .before .before .args in
-    let a = length-decimal (d .first) in
-    let b = length-decimal (d .frames) in
-    let e = length-decimal (d .cells) in
-    put-then (c .before .before .before .before .before .before .before .before .before .before .before .before .before .before .before .before .before .before .before .put .ensures) (omega arith) (put-then (c .before .before .before .before .before .before .before .before .before .before .before .before .before .before .before .put-number .ensures) (omega arith) (put-then (c .before .before .before .before .before .before .before .before .before .before .before .put-number2 .ensures) (omega arith) (put-then (c .before .before .before .before .before .before .before .put-number3 .ensures) (omega arith) (c .before .before .put2 .ensures))))
+    let a = c .before .before .before .before .before .before .before .before .before .before .before .before .before .before .before .before .before .before .before .before .before .before .before .args in
+    let x = length-decimal (a .first) in
+    let y = length-decimal (a .frames) in
+    let z = length-decimal (a .cells) in
+    put-then (c .before .before .before .before .before .before .before .before .before .before .before .before .before .before .before .before .before .before .before .put .ensures) (omega arith)
+    (put-then (c .before .before .before .before .before .before .before .before .before .before .before .before .before .before .before .put-number .ensures) (omega arith)
+    (put-then (c .before .before .before .before .before .before .before .before .before .before .before .put-number2 .ensures) (omega arith)
+    (put-then (c .before .before .before .before .before .before .before .put-number3 .ensures) (omega arith)
+    (c .before .before .put2 .ensures))))
 
 pub put-line-spec : {M : Type 1} → statement M
 put-line-spec =

@@ -21,16 +21,28 @@ slice-aggregate-put : tie.Need-slice-aggregate-put
 slice-aggregate-put c = search needs
 
 put-requires : tie.Need-put-requires
-put-requires c κs = omega (arith, has-room (now (c .before .before .before .before .before .args .out)) (c .before .before .before .before .before .args .at) 29 _ (c .before .before .before .has-room .ensures) (c .before .before .if1 .left))
+put-requires c κs =
+    let i = c .before .before in
+    let a = i .before .before .before .args in
+    let h = has-room (now (a .out)) (a .at) 29 _ (i .before .has-room .ensures) (i .if1 .left) in
+    omega (arith, h)
 
 put-number-requires : tie.Need-put-number-requires
-put-number-requires c κs = omega (arith, has-room (now (c .before .before .before .before .before .before .before .before .before .args .out)) (c .before .before .before .before .before .before .before .before .before .args .at) 29 _ (c .before .before .before .before .before .before .before .has-room .ensures) (c .before .before .before .before .before .before .if1 .left))
+put-number-requires c κs =
+    let i = c .before .before .before .before .before .before in
+    let a = i .before .before .before .args in
+    let h = has-room (now (a .out)) (a .at) 29 _ (i .before .has-room .ensures) (i .if1 .left) in
+    omega (arith, h)
 
 slice-aggregate-put-2 : tie.Need-slice-aggregate-put-2
 slice-aggregate-put-2 c = search needs
 
 put-requires-2 : tie.Need-put-requires-2
-put-requires-2 c κs = omega (arith, length-decimal (c .before .before .before .before .before .before .before .before .before .before .before .before .before .before .args .refused), has-room (now (c .before .before .before .before .before .before .before .before .before .before .before .before .before .before .args .out)) (c .before .before .before .before .before .before .before .before .before .before .before .before .before .before .args .at) 29 _ (c .before .before .before .before .before .before .before .before .before .before .before .before .has-room .ensures) (c .before .before .before .before .before .before .before .before .before .before .before .if1 .left))
+put-requires-2 c κs =
+    let i = c .before .before .before .before .before .before .before .before .before .before .before in
+    let a = i .before .before .before .args in
+    let h = has-room (now (a .out)) (a .at) 29 _ (i .before .has-room .ensures) (i .if1 .left) in
+    omega (arith, h, length-decimal (a .refused))
 
 same-length : tie.Need-same-length
 same-length c = search needs
@@ -38,8 +50,13 @@ same-length c = search needs
 returns-2 : tie.Need-returns-2
 unfolding refusedLine
 returns-2 c =
-    let h = has-room (now (c .before .before .before .before .before .before .before .before .before .before .before .before .before .before .before .before .before .args .out)) (c .before .before .before .before .before .before .before .before .before .before .before .before .before .before .before .before .before .args .at) 29 _ (c .before .before .before .before .before .before .before .before .before .before .before .before .before .before .before .has-room .ensures) (c .before .before .before .before .before .before .before .before .before .before .before .before .before .before .if1 .left) in
-    is-written (put-then (c .before .before .before .before .before .before .before .before .before .before .before .put .ensures) (omega (arith, h)) (put-then (c .before .before .before .before .before .before .before .put-number .ensures) (omega (arith, h, length-decimal (c .before .before .before .before .before .before .before .before .before .before .before .before .before .before .before .before .before .args .refused))) (c .before .before .put2 .ensures))) 29 h
+    let i = c .before .before .before .before .before .before .before .before .before .before .before .before .before .before in
+    let a = i .before .before .before .args in
+    let h = has-room (now (a .out)) (a .at) 29 _ (i .before .has-room .ensures) (i .if1 .left) in
+    is-written
+    (put-then (c .before .before .before .before .before .before .before .before .before .before .before .put .ensures) (omega (arith, h)) (put-then (c .before .before .before .before .before .before .before .put-number .ensures) (omega (arith, h, length-decimal (a .refused))) (c .before .before .put2 .ensures)))
+    29
+    h
 
 pub put-refused-spec : {M : Type 1} → statement M
 put-refused-spec =

@@ -33,7 +33,10 @@ returns : tie.Need-returns
 unfolding place
 returns c =
     let n = length-decimal (c .before .before .before .before .before .before .before .before .before .before .before .before .before .before .before .before .before .before .before .args .number) in
-    put-then (c .before .before .before .before .before .before .before .before .before .before .before .before .before .before .before .put .ensures) (omega arith) (put-then (c .before .before .before .before .before .before .before .before .before .before .before .put-number .ensures) (omega arith) (put-then (c .before .before .before .before .before .before .put2 .ensures) (omega arith) (c .before .before .put-number2 .ensures)))
+    put-then (c .before .before .before .before .before .before .before .before .before .before .before .before .before .before .before .put .ensures) (omega arith)
+    (put-then (c .before .before .before .before .before .before .before .before .before .before .before .put-number .ensures) (omega arith)
+    (put-then (c .before .before .before .before .before .before .put2 .ensures) (omega arith)
+    (c .before .before .put-number2 .ensures)))
 
 pub put-place-spec : {M : Type 1} → statement M
 put-place-spec =

@@ -19,31 +19,55 @@ returns c =
     not-written 170 (refusalLine (a .number) (a .offset) (a .rule)) (now (a .out)) (a .at) (no-room (now (a .out)) (a .at) 170 _ (c .before .has-room .ensures) (c .if1 .taken))
 
 put-place-requires : tie.Need-put-place-requires
-put-place-requires c κs = omega (arith, has-room (now (c .before .before .before .before .args .out)) (c .before .before .before .before .args .at) 170 _ (c .before .before .has-room .ensures) (c .before .if1 .left))
+put-place-requires c κs =
+    let i = c .before in
+    let a = i .before .before .before .args in
+    let h = has-room (now (a .out)) (a .at) 170 _ (i .before .has-room .ensures) (i .if1 .left) in
+    omega (arith, h)
 
 slice-aggregate-put : tie.Need-slice-aggregate-put
 slice-aggregate-put c = search needs
 
 put-requires : tie.Need-put-requires
-put-requires c κs = omega (arith, has-room (now (c .before .before .before .before .before .before .before .before .before .args .out)) (c .before .before .before .before .before .before .before .before .before .args .at) 170 _ (c .before .before .before .before .before .before .before .has-room .ensures) (c .before .before .before .before .before .before .if1 .left), length-place (c .before .before .before .before .before .before .before .before .before .args .number) (c .before .before .before .before .before .before .before .before .before .args .offset))
+put-requires c κs =
+    let i = c .before .before .before .before .before .before in
+    let a = i .before .before .before .args in
+    let h = has-room (now (a .out)) (a .at) 170 _ (i .before .has-room .ensures) (i .if1 .left) in
+    omega (arith, h, length-place (a .number) (a .offset))
 
 put-number-requires : tie.Need-put-number-requires
-put-number-requires c κs = omega (arith, has-room (now (c .before .before .before .before .before .before .before .before .before .before .before .before .before .args .out)) (c .before .before .before .before .before .before .before .before .before .before .before .before .before .args .at) 170 _ (c .before .before .before .before .before .before .before .before .before .before .before .has-room .ensures) (c .before .before .before .before .before .before .before .before .before .before .if1 .left), length-place (c .before .before .before .before .before .before .before .before .before .before .before .before .before .args .number) (c .before .before .before .before .before .before .before .before .before .before .before .before .before .args .offset))
+put-number-requires c κs =
+    let i = c .before .before .before .before .before .before .before .before .before .before in
+    let a = i .before .before .before .args in
+    let h = has-room (now (a .out)) (a .at) 170 _ (i .before .has-room .ensures) (i .if1 .left) in
+    omega (arith, h, length-place (a .number) (a .offset))
 
 slice-aggregate-put-2 : tie.Need-slice-aggregate-put-2
 slice-aggregate-put-2 c = search needs
 
 put-requires-2 : tie.Need-put-requires-2
-put-requires-2 c κs = omega (arith, has-room (now (c .before .before .before .before .before .before .before .before .before .before .before .before .before .before .before .before .before .before .args .out)) (c .before .before .before .before .before .before .before .before .before .before .before .before .before .before .before .before .before .before .args .at) 170 _ (c .before .before .before .before .before .before .before .before .before .before .before .before .before .before .before .before .has-room .ensures) (c .before .before .before .before .before .before .before .before .before .before .before .before .before .before .before .if1 .left), length-place (c .before .before .before .before .before .before .before .before .before .before .before .before .before .before .before .before .before .before .args .number) (c .before .before .before .before .before .before .before .before .before .before .before .before .before .before .before .before .before .before .args .offset), length-decimal (c .before .before .before .before .before .before .before .before .before .before .before .before .before .before .before .before .before .before .args .rule))
+put-requires-2 c κs =
+    let i = c .before .before .before .before .before .before .before .before .before .before .before .before .before .before .before in
+    let a = i .before .before .before .args in
+    let h = has-room (now (a .out)) (a .at) 170 _ (i .before .has-room .ensures) (i .if1 .left) in
+    omega (arith, h, length-place (a .number) (a .offset), length-decimal (a .rule))
 
 put-words-requires : tie.Need-put-words-requires
-put-words-requires c κs = omega (arith, has-room (now (c .before .before .before .before .before .before .before .before .before .before .before .before .before .before .before .before .before .before .before .before .before .before .args .out)) (c .before .before .before .before .before .before .before .before .before .before .before .before .before .before .before .before .before .before .before .before .before .before .args .at) 170 _ (c .before .before .before .before .before .before .before .before .before .before .before .before .before .before .before .before .before .before .before .before .has-room .ensures) (c .before .before .before .before .before .before .before .before .before .before .before .before .before .before .before .before .before .before .before .if1 .left), length-place (c .before .before .before .before .before .before .before .before .before .before .before .before .before .before .before .before .before .before .before .before .before .before .args .number) (c .before .before .before .before .before .before .before .before .before .before .before .before .before .before .before .before .before .before .before .before .before .before .args .offset), length-decimal (c .before .before .before .before .before .before .before .before .before .before .before .before .before .before .before .before .before .before .before .before .before .before .args .rule))
+put-words-requires c κs =
+    let i = c .before .before .before .before .before .before .before .before .before .before .before .before .before .before .before .before .before .before .before in
+    let a = i .before .before .before .args in
+    let h = has-room (now (a .out)) (a .at) 170 _ (i .before .has-room .ensures) (i .if1 .left) in
+    omega (arith, h, length-place (a .number) (a .offset), length-decimal (a .rule))
 
 slice-aggregate-put-3 : tie.Need-slice-aggregate-put-3
 slice-aggregate-put-3 c = search needs
 
 put-requires-3 : tie.Need-put-requires-3
-put-requires-3 c κs = omega (arith, has-room (now (c .before .before .before .before .before .before .before .before .before .before .before .before .before .before .before .before .before .before .before .before .before .before .before .before .before .before .before .args .out)) (c .before .before .before .before .before .before .before .before .before .before .before .before .before .before .before .before .before .before .before .before .before .before .before .before .before .before .before .args .at) 170 _ (c .before .before .before .before .before .before .before .before .before .before .before .before .before .before .before .before .before .before .before .before .before .before .before .before .before .has-room .ensures) (c .before .before .before .before .before .before .before .before .before .before .before .before .before .before .before .before .before .before .before .before .before .before .before .before .if1 .left), length-place (c .before .before .before .before .before .before .before .before .before .before .before .before .before .before .before .before .before .before .before .before .before .before .before .before .before .before .before .args .number) (c .before .before .before .before .before .before .before .before .before .before .before .before .before .before .before .before .before .before .before .before .before .before .before .before .before .before .before .args .offset), length-decimal (c .before .before .before .before .before .before .before .before .before .before .before .before .before .before .before .before .before .before .before .before .before .before .before .before .before .before .before .args .rule), length-words (c .before .before .before .before .before .before .before .before .before .before .before .before .before .before .before .before .before .before .before .before .before .before .before .before .before .before .before .args .rule))
+put-requires-3 c κs =
+    let i = c .before .before .before .before .before .before .before .before .before .before .before .before .before .before .before .before .before .before .before .before .before .before .before .before in
+    let a = i .before .before .before .args in
+    let h = has-room (now (a .out)) (a .at) 170 _ (i .before .has-room .ensures) (i .if1 .left) in
+    omega (arith, h, length-place (a .number) (a .offset), length-decimal (a .rule), length-words (a .rule))
 
 same-length : tie.Need-same-length
 same-length c = search needs
@@ -51,12 +75,21 @@ same-length c = search needs
 returns-2 : tie.Need-returns-2
 unfolding refusalLine
 returns-2 c =
-    let h = has-room (now (c .before .before .before .before .before .before .before .before .before .before .before .before .before .before .before .before .before .before .before .before .before .before .before .before .before .before .before .before .before .before .args .out)) (c .before .before .before .before .before .before .before .before .before .before .before .before .before .before .before .before .before .before .before .before .before .before .before .before .before .before .before .before .before .before .args .at) 170 _ (c .before .before .before .before .before .before .before .before .before .before .before .before .before .before .before .before .before .before .before .before .before .before .before .before .before .before .before .before .has-room .ensures) (c .before .before .before .before .before .before .before .before .before .before .before .before .before .before .before .before .before .before .before .before .before .before .before .before .before .before .before .if1 .left) in
-    let p = length-place (c .before .before .before .before .before .before .before .before .before .before .before .before .before .before .before .before .before .before .before .before .before .before .before .before .before .before .before .before .before .before .args .number) (c .before .before .before .before .before .before .before .before .before .before .before .before .before .before .before .before .before .before .before .before .before .before .before .before .before .before .before .before .before .before .args .offset) in
-    let r = length-decimal (c .before .before .before .before .before .before .before .before .before .before .before .before .before .before .before .before .before .before .before .before .before .before .before .before .before .before .before .before .before .before .args .rule) in
-    let w = length-words (c .before .before .before .before .before .before .before .before .before .before .before .before .before .before .before .before .before .before .before .before .before .before .before .before .before .before .before .before .before .before .args .rule) in
+    let a = c .before .before .before .before .before .before .before .before .before .before .before .before .before .before .before .before .before .before .before .before .before .before .before .before .before .before .before .before .before .before .args in
+    let h =
+    has-room (now (a .out)) (a .at) 170 _
+    (c .before .before .before .before .before .before .before .before .before .before .before .before .before .before .before .before .before .before .before .before .before .before .before .before .before .before .before .before .has-room .ensures)
+    (c .before .before .before .before .before .before .before .before .before .before .before .before .before .before .before .before .before .before .before .before .before .before .before .before .before .before .before .if1 .left) in
+    let p = length-place (a .number) (a .offset) in
+    let r = length-decimal (a .rule) in
+    let w = length-words (a .rule) in
     is-written
-    (put-then (c .before .before .before .before .before .before .before .before .before .before .before .before .before .before .before .before .before .before .before .before .before .before .before .before .before .put-place .ensures) (omega (arith, h, p)) (put-then (c .before .before .before .before .before .before .before .before .before .before .before .before .before .before .before .before .before .before .before .before .put .ensures) (omega (arith, h, p)) (put-then (c .before .before .before .before .before .before .before .before .before .before .before .before .before .before .before .before .put-number .ensures) (omega (arith, h, p, r)) (put-then (c .before .before .before .before .before .before .before .before .before .before .before .put2 .ensures) (omega (arith, h, p, r)) (put-then (c .before .before .before .before .before .before .before .put-words .ensures) (omega (arith, h, p, r, w)) (c .before .before .put3 .ensures))))))
+    (put-then (c .before .before .before .before .before .before .before .before .before .before .before .before .before .before .before .before .before .before .before .before .before .before .before .before .before .put-place .ensures) (omega (arith, h, p))
+    (put-then (c .before .before .before .before .before .before .before .before .before .before .before .before .before .before .before .before .before .before .before .before .put .ensures) (omega (arith, h, p))
+    (put-then (c .before .before .before .before .before .before .before .before .before .before .before .before .before .before .before .before .put-number .ensures) (omega (arith, h, p, r))
+    (put-then (c .before .before .before .before .before .before .before .before .before .before .before .put2 .ensures) (omega (arith, h, p, r))
+    (put-then (c .before .before .before .before .before .before .before .put-words .ensures) (omega (arith, h, p, r, w))
+    (c .before .before .put3 .ensures))))))
     170
     h
 
