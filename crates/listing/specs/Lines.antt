@@ -35,8 +35,14 @@ abbrev pub lineSize : ℕ
 lineSize = wordSize + 3 * (1 + digits) + 1
 
 -- "A major frame's first is 16 x its number, its frames the number of slots held, its cells 54 per MAG slot."
+abbrev pub slotsHeld : Major → ℕ
+slotsHeld m = ones (m .slots)
+
+abbrev pub samplesHeld : Major → ℕ
+samplesHeld m = samplesSize * ones (m .«mag_slots»)
+
 unfoldable pub frameLine : Major → List ℕ
-frameLine m = lineOf (ascii "major") (16 * m .number) (ones (m .slots)) (samplesSize * ones (m .«mag_slots»))
+frameLine m = lineOf (ascii "major") (16 * m .number) (slotsHeld m) (samplesHeld m)
 
 -- nothing where none closed; nor where its first would leave 64 bits, which no state that keeps 01's list leads to
 -- (`always-listed` in proofs/Closings.antt)
@@ -44,8 +50,14 @@ unfoldable pub majorLine : MajorReport → List ℕ
 majorLine r = cond (r .closed && ltb (16 * r .frame .number) (2 ^ 64)) (frameLine (r .frame)) []
 
 -- "for an accumulation, the count of its first frame"; the frames it holds, and their cells
+abbrev pub framesHeld : AccumulationReport → ℕ
+framesHeld r = ones (r .held)
+
+abbrev pub cellsHeld : AccumulationReport → ℕ
+cellsHeld r = scienceSize * framesHeld r
+
 unfoldable pub accumLine : AccumulationReport → List ℕ
-accumLine r = cond (r .closed) (lineOf (ascii "accum") (r .first) (ones (r .held)) (scienceSize * ones (r .held))) []
+accumLine r = cond (r .closed) (lineOf (ascii "accum") (r .first) (framesHeld r) (cellsHeld r)) []
 
 -- "One record may close both; the major frame is reported first."
 unfoldable pub closedLines : MajorReport → AccumulationReport → List ℕ

@@ -1,0 +1,51 @@
+-- The kept records by themselves: what the numbers of one say of the next.
+-- Assumes nothing.
+use mathlib.Core.Path.{_≡_, refl, sym, subst⁻¹}
+use mathlib.Core.Bool.{Bool, true, false, cond}
+use mathlib.Core.List.{List, [], _∷_}
+use Prim.Native.Nat.{ℕ, _+_, _%_, _<_, _≤_}
+use native.Mathlib.Omega.{arith}
+use Rattle.bits.specs.Twelve.{Bytes}
+use Rattle.record.specs.Contents.{recordOf}
+use Rattle.carriage.specs.Carriage.{types}
+use Rattle.stream.specs.Sending.{realTime, next, SentAt, Fate, kept, removed, extra, Sends, Kept, keptOf}
+use Rattle.stream.specs.Cutting.{at, typeOf}
+
+-- x is the next kept: count c, real-time number k and l lost ones come before what was sent from here on
+pub record Next (c k l : ℕ) (x : Kept) : Type 0 where
+  pub bytes : Bytes (x .bytes)
+  pub counted : at x + l ≡ c + x .lost
+  pub losing : l ≤ x .lost
+  pub rising : k ≤ x .serial
+  pub between : x .serial + l ≤ k + x .lost
+  pub typed : realTime (x .bytes) ≡ true → typeOf x ≡ x .serial % types
+
+unfoldable pub Chain : ℕ → ℕ → ℕ → List Kept → Type 0
+Chain c k l [] = Unit {0}
+Chain c k l (x ∷ xs) = Next c k l x × Chain (at x + 1) (next (x .serial) (x .bytes)) (x .lost) xs
+
+-- one more was sent before, and lost
+loosen : (xs : List Kept) (c k k′ l : ℕ) → k ≤ k′ → k′ ≤ k + 1 → Chain (c + 1) k′ (l + 1) xs → Chain c k l xs
+unfolding Chain
+loosen [] c k k′ l p q h = tt
+loosen (x ∷ xs) c k k′ l p q h =
+    let n = h .0 in
+    (record { bytes = n .bytes; counted = omega arith; losing = omega arith; rising = omega arith; between = omega arith; typed = n .typed }, h .1)
+
+next-near : (k : ℕ) (r : List ℕ) → (k ≤ next k r) × (next k r ≤ k + 1)
+next-near k r = go (realTime r)
+  where
+    go : (t : Bool) → (k ≤ cond t (k + 1) k) × (cond t (k + 1) k ≤ k + 1)
+    go true = (omega arith, omega arith)
+    go false = (omega arith, omega arith)
+
+pub chain : (xs : List Fate) (c k l : ℕ) → Sends c k xs → Chain c k l (keptOf k l xs)
+unfolding Chain Sends keptOf
+chain [] c k l h = tt
+chain (extra x ∷ xs) c k l h = chain xs c k l h
+chain (removed r ∷ xs) c k l h = let n = next-near k r in loosen (keptOf (next k r) (l + 1) xs) c k (next k r) l (n .0) (n .1) (chain xs (c + 1) (next k r) (l + 1) (h .1))
+chain (kept r ∷ xs) c k l h =
+    let p = h .0 in (
+      record { bytes = p .bytes; counted = omega arith; losing = omega arith; rising = omega arith; between = omega arith; typed = p .typed },
+      subst⁻¹ (λ (d : ℕ). Chain (d + 1) (next k r) l (keptOf (next k r) l xs)) (p .counted) (chain xs (c + 1) (next k r) l (h .1)),
+    )

@@ -1,0 +1,13 @@
+pub mod Runs
+pub mod Calls
+pub mod Parts
+pub mod Chains
+pub mod Grouping
+pub mod Marking
+pub mod Reals
+pub mod Rounds
+pub mod Cells
+pub mod Frames
+pub mod Slots
+pub mod Sums
+pub mod Demand

@@ -1,0 +1,79 @@
+-- The trace of a run: the one that the promises of step and finish allow; every state in it keeps the list.
+-- Assumes nothing.
+use mathlib.Core.Path.{_≡_, refl, sym, ap, subst⁻¹, _∙_}
+use mathlib.Core.Bool.{Bool, true, false, cond, _&&_}
+use mathlib.Core.List.{List, [], _∷_}
+use Prim.Native.Nat.{ℕ}
+use lib.Dec.{eqb}
+use lib.IntN.{ℤ}
+use borrow.Author.Tests.{eqb-true, eqb-false}
+use Rattle.state.specs.List.{listed}
+use Rattle.state.specs.Deciding.{Input, numberOf, acceptedAt, decidedOf, answerNumber}
+use Rattle.state.specs.Ending.{ending, unended, endedOf, endNumber, endingNumber}
+use Rattle.state.specs.Keeping.{Sound}
+use Rattle.state.specs.declared.State.{State}
+use Rattle.state.specs.declared.deciding.Decided.{Decided}
+use Rattle.state.specs.declared.deciding.Stepped.{Stepped}
+use Rattle.state.specs.declared.ending.Finished.{Finished}
+use Rattle.state.proofs.Told.{accepted-is, refused-is}
+use Rattle.state.proofs.Keeping.{step-sound, end-sound}
+use Rattle.reader.specs.Steps.{Buffers, buffers, sized, input, stepped, ended}
+use Rattle.stream.specs.Lists.{Every}
+use Rattle.stream.specs.Running.{Call, End, Trace, step, finish, called, run, Allowed, states}
+
+-- the number of a decision is that of its answer
+pub answered : (i : Input) → answerNumber (decidedOf i .stepped .answer) ≡ numberOf i
+unfolding answerNumber acceptedAt
+answered i = go (eqb (numberOf i) 0) refl
+  where
+    go : (t : Bool) → eqb (numberOf i) 0 ≡ t → answerNumber (decidedOf i .stepped .answer) ≡ numberOf i
+    go true t = ap (λ (x : Decided). answerNumber (x .stepped .answer)) (accepted-is i (eqb-true (numberOf i) 0 t)) ∙ sym (eqb-true (numberOf i) 0 t)
+    go false t = ap (λ (x : Decided). answerNumber (x .stepped .answer)) (refused-is i (eqb-false (numberOf i) 0 t))
+
+pub finished : (s : State) (size : Bool) → endingNumber (endedOf s size .finished .ending) ≡ endNumber s size
+unfolding endedOf endingNumber
+finished s size = go (size && listed s)
+  where
+    go : (t : Bool) → endingNumber (cond t (ending s) (unended s) .finished .ending) ≡ cond t 0 1
+    go true = refl
+    go false = refl
+
+-- a call is its answer and its four buffers
+abbrev call : Stepped → List ℕ → List ℕ → List ℤ → List ℤ → Call
+call x oc fc os fs = record { result = x; left = buffers oc fc os fs }
+
+abbrev last : Finished → List ℕ → List ℕ → List ℤ → List ℤ → End
+last x oc fc os fs = record { result = x; left = buffers oc fc os fs }
+
+module _ {oc oc′ fc fc′ : List ℕ} {os os′ fs fs′ : List ℤ} (a : oc ≡ oc′) (b : fc ≡ fc′) (c : os ≡ os′) (d : fs ≡ fs′) where
+  same-call : (x y : Stepped) → x ≡ y → call x oc fc os fs ≡ call y oc′ fc′ os′ fs′
+  same-call x y e = rw (e, a, b, c, d)
+
+  same-last : (x y : Finished) → x ≡ y → last x oc fc os fs ≡ last y oc′ fc′ os′ fs′
+  same-last x y e = rw (e, a, b, c, d)
+
+-- whatever meets the promises at each call has this trace
+pub only-run : (rs : List (List ℕ)) (s : State) (b : Buffers) (t : Trace) → Allowed s b rs t → t ≡ run s b rs
+unfolding Allowed run called
+only-run [] s b (finish e) h = ap finish (same-last (h .cells-open) (h .cells-finished) (h .samples-open) (h .samples-finished) _ _ (h .result))
+only-run [] s b (step c t) h = absurd h
+only-run (r ∷ rs) s b (finish e) h = absurd h
+only-run (r ∷ rs) s b (step c t) h =
+    let p = h .0 in
+    let e : c ≡ called s b r = same-call (p .cells-open) (p .cells-finished) (p .samples-open) (p .samples-finished) _ _ (p .result) in
+    ap (step c) (only-run rs (c .result .state) (c .left) t (h .1)) ∙ ap (λ (x : Call). step x (run (x .result .state) (x .left) rs)) e
+
+-- and it does meet them
+pub run-allowed : (rs : List (List ℕ)) (s : State) (b : Buffers) → Allowed s b rs (run s b rs)
+unfolding Allowed run called
+run-allowed [] s b = record { result = refl; number = finished s (sized b); cells-open = refl; cells-finished = refl; samples-open = refl; samples-finished = refl }
+run-allowed (r ∷ rs) s b = (
+  record { result = refl; number = answered (input s b r); cells-open = refl; cells-finished = refl; samples-open = refl; samples-finished = refl },
+  run-allowed rs _ _,
+)
+
+-- "The state list" is kept, whatever is fed
+pub run-sound : (rs : List (List ℕ)) (s : State) (b : Buffers) → Sound s → Every Sound (states (run s b rs))
+unfolding Every states run called
+run-sound [] s b h = (end-sound s (sized b) h, tt)
+run-sound (r ∷ rs) s b h = let k = step-sound (input s b r) h in (k, run-sound rs _ _ k)

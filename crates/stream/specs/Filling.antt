@@ -1,0 +1,86 @@
+-- What stands in what is handed out (demand 3).
+-- Assumes nothing.
+use Prim.Native.Nat.{ℕ, _+_, _*_, _^_, _<_}
+use mathlib.Core.Bool.{true, false}
+use mathlib.Core.List.{List, [], _∷_}
+use mathlib.Core.Path.{_≡_}
+use lib.Count.{ones}
+use lib.IntN.{pos}
+use lib.ListN.{length, getD}
+use Rattle.tables.specs.Marks.{bitSet}
+use Rattle.record.specs.Layout.{packetBytes, frameCode, magBytes, scienceBytes}
+use Rattle.record.specs.Contents.{recordOf}
+use Rattle.mag.specs.Samples.{samplesSize, range, sample}
+use Rattle.carriage.specs.Carriage.{types, scienceSize, place}
+use Rattle.cells.specs.Laying.{cellsSize, topPair, pairAt}
+use Rattle.state.specs.Major.{slotOf}
+use Rattle.reader.specs.Buffers.{frameSamples}
+use Rattle.stream.specs.Lists.{Every}
+use Rattle.stream.specs.Running.{ClosedAccumulation, ClosedMajor}
+use Rattle.stream.specs.Sending.{realTime, Kept, reals}
+use Rattle.stream.specs.Cutting.{at, typeOf, major}
+
+-- the packet of a kept record
+abbrev pub packet : Kept → List ℕ
+packet f = packetBytes (f .bytes)
+
+-- "each of its 83 science bytes in ... its own [cell]", and its bit pair
+pub record Stands (f : Kept) (a : ClosedAccumulation) : Type 0 where
+  pub held : bitSet (a .report .held) (typeOf f) ≡ true
+  pub science : (k : ℕ) → k < scienceSize → getD (a .cells) (place (typeOf f) k) 0 ≡ getD (scienceBytes (packet f)) k 0
+  pub pair : pairAt (a .cells) (typeOf f) ≡ topPair (frameCode (packet f))
+
+-- a type that isn't there: no mark, and its cells and its pair are 0
+pub record Missing (u : ℕ) (a : ClosedAccumulation) : Type 0 where
+  pub unheld : bitSet (a .report .held) u ≡ false
+  pub science : (k : ℕ) → k < scienceSize → getD (a .cells) (place u k) 0 ≡ 0
+  pub pair : pairAt (a .cells) u ≡ 0
+
+abbrev pub firstCount : List Kept → ℕ
+firstCount [] = 0
+firstCount (f ∷ fs) = at f
+
+-- the accumulation that holds just these records
+pub record Filled (g : List Kept) (a : ClosedAccumulation) : Type 0 where
+  pub first : a .report .first ≡ firstCount g
+  pub frames : ones (a .report .held) ≡ length g
+  pub among : a .report .held < 2 ^ types
+  pub size : length (a .cells) ≡ cellsSize
+  pub own : Every (λ f. Stands f a) g
+  pub others : (u : ℕ) → u < types → Every (λ f. typeOf f ≡ u → ⊥) g → Missing u a
+
+abbrev pub slot : Kept → ℕ
+slot f = slotOf (at f)
+
+-- the mark, the range and the 54 samples of a real-time record
+pub record Sampled (f : Kept) (m : ClosedMajor) : Type 0 where
+  pub marked : bitSet (m .frame .«mag_slots») (slot f) ≡ true
+  pub ranged : getD (m .frame .ranges) (slot f) 0 ≡ range (magBytes (packet f))
+  pub samples : (k : ℕ) → k < samplesSize → getD (m .samples) (samplesSize * slot f + k) (pos 0) ≡ sample (magBytes (packet f)) k
+
+-- a record in its slot: its subcom word and, of a real-time one, its MAG
+pub record Slotted (f : Kept) (m : ClosedMajor) : Type 0 where
+  pub number : m .frame .number ≡ major f
+  pub held : bitSet (m .frame .slots) (slot f) ≡ true
+  pub word : getD (m .frame .words) (slot f) 0 ≡ recordOf (f .bytes) .subcom
+  pub mag : realTime (f .bytes) ≡ true → Sampled f m
+
+-- a slot that isn't there
+pub record NoSlot (i : ℕ) (m : ClosedMajor) : Type 0 where
+  pub unheld : bitSet (m .frame .slots) i ≡ false
+  pub word : getD (m .frame .words) i 0 ≡ 0
+
+-- and one without MAG
+pub record NoMag (i : ℕ) (m : ClosedMajor) : Type 0 where
+  pub unmarked : bitSet (m .frame .«mag_slots») i ≡ false
+  pub ranged : getD (m .frame .ranges) i 0 ≡ 0
+  pub samples : (k : ℕ) → k < samplesSize → getD (m .samples) (samplesSize * i + k) (pos 0) ≡ pos 0
+
+-- the major frame that holds just these records
+pub record MajorFilled (g : List Kept) (m : ClosedMajor) : Type 0 where
+  pub slots : ones (m .frame .slots) ≡ length g
+  pub mags : ones (m .frame .«mag_slots») ≡ length (reals g)
+  pub size : length (m .samples) ≡ frameSamples
+  pub own : Every (λ f. Slotted f m) g
+  pub no-slot : (i : ℕ) → i < 16 → Every (λ f. slot f ≡ i → ⊥) g → NoSlot i m
+  pub no-mag : (i : ℕ) → i < 16 → Every (λ f. slot f ≡ i → ⊥) (reals g) → NoMag i m

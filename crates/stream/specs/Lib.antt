@@ -1,0 +1,6 @@
+pub mod Lists
+pub mod Running
+pub mod Sending
+pub mod Cutting
+pub mod Filling
+pub mod Demand

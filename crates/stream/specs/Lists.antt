@@ -1,0 +1,52 @@
+-- What is said of lists, over any elements.
+-- Assumes nothing.
+use Prim.Native.Nat.{ℕ, _+_}
+use mathlib.Core.List.{List, [], _∷_, _++_}
+use mathlib.Core.Logic.{_⊎_}
+
+-- each element has it
+unfoldable pub Every : {A : Type 0} → (A → Type 0) → List A → Type 0
+Every P [] = Unit {0}
+Every P (x ∷ xs) = P x × Every P xs
+
+-- as many of the one as of the other, each with its own
+unfoldable pub Pairwise : {A B : Type 0} → (A → B → Type 0) → List A → List B → Type 0
+Pairwise P [] [] = Unit {0}
+Pairwise P [] (y ∷ ys) = ⊥
+Pairwise P (x ∷ xs) [] = ⊥
+Pairwise P (x ∷ xs) (y ∷ ys) = P x y × Pairwise P xs ys
+
+-- exactly one element has it
+unfoldable pub ExactlyOne : {A : Type 0} → (A → Type 0) → List A → Type 0
+ExactlyOne P [] = ⊥
+ExactlyOne P (x ∷ xs) = (P x × Every (λ y. P y → ⊥) xs) ⊎ ((P x → ⊥) × ExactlyOne P xs)
+
+-- the elements of all lists, in order
+unfoldable pub flat : {A : Type 0} → List (List A) → List A
+flat [] = []
+flat (g ∷ gs) = g ++ flat gs
+
+unfoldable pub sum : {A : Type 0} → (A → ℕ) → List A → ℕ
+sum f [] = 0
+sum f (x ∷ xs) = f x + sum f xs
+
+-- neighbours are related, from p on; and the last one
+unfoldable pub Linked : {A : Type 0} → (A → A → Type 0) → A → List A → Type 0
+Linked R p [] = Unit {0}
+Linked R p (x ∷ xs) = R p x × Linked R x xs
+
+unfoldable pub final : {A : Type 0} → A → List A → A
+final p [] = p
+final p (x ∷ xs) = final x xs
+
+-- the first of the lists begins with one that p is related to
+unfoldable pub Across : {A : Type 0} → (A → A → Type 0) → A → List (List A) → Type 0
+Across R p [] = Unit {0}
+Across R p ([] ∷ gs) = ⊥
+Across R p ((x ∷ xs) ∷ gs) = R p x
+
+-- lists, none of them empty: neighbours in one are related by R, neighbours in two by S
+unfoldable pub Cut : {A : Type 0} → (A → A → Type 0) → (A → A → Type 0) → List (List A) → Type 0
+Cut R S [] = Unit {0}
+Cut R S ([] ∷ gs) = ⊥
+Cut R S ((x ∷ xs) ∷ gs) = Linked R x xs × Across S (final x xs) gs × Cut R S gs
