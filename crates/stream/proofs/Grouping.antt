@@ -1,8 +1,9 @@
 -- Records put together one after another: each goes on with the open group, or closes it and opens one. What comes out is a
 -- cutting of the records, in order, each once.
 -- Assumes nothing.
-use mathlib.Core.Path.{_≡_, refl, sym, ap, _∙_}
+use mathlib.Core.Path.{_≡_, refl, ap, subst, _∙_}
 use mathlib.Core.List.{List, [], _∷_, _++_, map, append-nil, append-assoc}
+use Prim.Native.Nat.{ℕ}
 use Rattle.stream.specs.Lists.{Every, Pairwise, flat, Linked, final, Across, Cut}
 use Rattle.stream.specs.Sending.{Kept}
 
@@ -10,6 +11,12 @@ every-append : (Q : Kept → Type 0) (g h : List Kept) → Every Q (g ++ h) → 
 unfolding Every
 every-append Q [] h e = (tt, e)
 every-append Q (x ∷ g) h e = let r = every-append Q g h (e .1) in ((e .0, r .0), r .1)
+
+-- what neighbours share, all share
+pub all-share : (key : Kept → ℕ) (R : Kept → Kept → Type 0) → ((p f : Kept) → R p f → key f ≡ key p) → (fs : List Kept) (p : Kept) → Linked R p fs → Every (λ f. key f ≡ key p) (p ∷ fs)
+unfolding Linked Every
+all-share key R same [] p h = (refl, tt)
+all-share key R same (f ∷ fs) p h = (refl, subst (λ (n : ℕ). Every (λ x. key x ≡ n) (f ∷ fs)) (same p f (h .0)) (all-share key R same fs f (h .1)))
 
 -- neighbours in one group are related by R, neighbours in two by S; a group with these records is handed out as `out`
 module _ {O : Type 0} (R S : Kept → Kept → Type 0) (out : List Kept → O) where

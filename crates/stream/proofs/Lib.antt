@@ -5,9 +5,11 @@ pub mod Chains
 pub mod Grouping
 pub mod Marking
 pub mod Reals
+pub mod Members
 pub mod Rounds
 pub mod Cells
 pub mod Frames
 pub mod Slots
 pub mod Sums
 pub mod Demand
+pub mod Once

@@ -23,6 +23,11 @@ module _ (key : Kept → ℕ) where
   Rising low [] = Unit {0}
   Rising low (f ∷ fs) = (low ≤ key f) × Rising (key f + 1) fs
 
+  pub rising-down : (xs : List Kept) (low low′ : ℕ) → low ≤ low′ → Rising low′ xs → Rising low xs
+  unfolding Rising
+  rising-down [] low low′ l r = tt
+  rising-down (x ∷ xs) low low′ l r = (omega (arith, r .0), r .1)
+
   -- a key that none of them has
   abbrev pub Free : ℕ → List Kept → Type 0
   Free i fs = Every (λ f. key f ≡ i → ⊥) fs

@@ -7,7 +7,7 @@ use Prim.Native.Nat.{ℕ, _+_, _≤_}
 use native.Mathlib.Omega.{arith}
 use Rattle.stream.specs.Lists.{Every}
 use Rattle.stream.specs.Sending.{realTime, Kept, reals}
-use Rattle.stream.proofs.Marking.{Rising}
+use Rattle.stream.proofs.Marking.{Rising, rising-down}
 
 pub reals-more : (x : Kept) (xs : List Kept) → realTime (x .bytes) ≡ true → reals (x ∷ xs) ≡ x ∷ reals xs
 unfolding reals
@@ -28,11 +28,6 @@ every-reals P (x ∷ xs) h = go (realTime (x .bytes)) refl (every-reals P xs (h 
     go false e r = rw e r
 
 module _ (key : Kept → ℕ) where
-  rising-down : (xs : List Kept) (low low′ : ℕ) → low ≤ low′ → Rising key low′ xs → Rising key low xs
-  unfolding Rising
-  rising-down [] low low′ l r = tt
-  rising-down (x ∷ xs) low low′ l r = (omega (arith, r .0), r .1)
-
   -- keys that rise, rise among them
   pub rising-reals : (xs : List Kept) (low : ℕ) → Rising key low xs → Rising key low (reals xs)
   unfolding Rising reals
@@ -41,4 +36,4 @@ module _ (key : Kept → ℕ) where
     where
       go : (t : Bool) → realTime (x .bytes) ≡ t → Rising key (key x + 1) (reals xs) → Rising key low (reals (x ∷ xs))
       go true e q = rw e (r .0, q)
-      go false e q = rw e (rising-down (reals xs) low (key x + 1) (omega (arith, r .0)) q)
+      go false e q = rw e (rising-down key (reals xs) low (key x + 1) (omega (arith, r .0)) q)

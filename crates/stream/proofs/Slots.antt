@@ -31,6 +31,7 @@ use Rattle.stream.specs.Sending.{realTime, Kept, reals}
 use Rattle.stream.specs.Cutting.{at, major, Beside}
 use Rattle.stream.specs.Filling.{packet, slot, Sampled, Slotted, NoSlot, NoMag, MajorFilled}
 use Rattle.stream.proofs.Calls.{samplesWith, noSamples, majorWith}
+use Rattle.stream.proofs.Grouping.{all-share}
 use Rattle.stream.proofs.Marking.{marksFrom, Rising, Free, free-below, fits-more, marks-stay, marks-first, marks-count}
 use Rattle.stream.proofs.Reals.{reals-more, reals-same, every-reals, rising-reals}
 use Rattle.stream.proofs.Frames.{majorFrom, samplesFrom, majorOf}
@@ -190,23 +191,18 @@ unfolding samplesFrom
 samples-length [] s e = e
 samples-length (f ∷ fs) s e = samples-length fs (samplesWith f s) (laid-length f s e)
 
--- the slots of one major frame rise, and its records have its number
+-- the slots of one major frame rise
 rises : (fs : List Kept) (p : Kept) → Linked Beside p fs → Rising slot (slot p + 1) fs
 unfolding Linked Rising
 rises [] p h = tt
 rises (f ∷ fs) p h = (omega (arith, h .0), rises fs f (h .1))
-
-same-number : (fs : List Kept) (p : Kept) → Linked Beside p fs → Every (λ f. major f ≡ major p) fs
-unfolding Linked Every
-same-number [] p h = tt
-same-number (f ∷ fs) p h = (h .0 .0, subst (λ (n : ℕ). Every (λ x. major x ≡ n) fs) (h .0 .0) (same-number fs f (h .1)))
 
 pub major-filled : (f : Kept) (fs : List Kept) → Linked Beside f fs → MajorFilled (f ∷ fs) (majorOf (f ∷ fs))
 unfolding majorOf Rising Every ones onesIn
 major-filled f fs l =
     let g = f ∷ fs in
     let r : Rising slot 0 g = (omega arith, rises fs f l) in
-    let b : Before (major f) 0 noMajor noSamples g = record { rising = r; numbered = (refl, same-number fs f l); slots = pow-pos 0; mags = pow-pos 0; words = refl; ranges = refl; samples = length-replicate {A = ℤ} frameSamples (pos 0) } in
+    let b : Before (major f) 0 noMajor noSamples g = record { rising = r; numbered = all-share major Beside (λ p x h. h .0) fs f l; slots = pow-pos 0; mags = pow-pos 0; words = refl; ranges = refl; samples = length-replicate {A = ℤ} frameSamples (pos 0) } in
     record {
       slots = rw (slots-are g noMajor) (marks-count slot g 0 0 (pow-pos 0) r ∙ zero-add (length g));
       mags = rw (mags-are g noMajor) (marks-count slot (reals g) 0 0 (pow-pos 0) (rising-reals slot g 0 r) ∙ zero-add (length (reals g)));

@@ -4,3 +4,4 @@ pub mod Sending
 pub mod Cutting
 pub mod Filling
 pub mod Demand
+pub mod Once

@@ -3,11 +3,17 @@
 use Prim.Native.Nat.{ℕ, _+_}
 use mathlib.Core.List.{List, [], _∷_, _++_}
 use mathlib.Core.Logic.{_⊎_}
+use mathlib.Core.Path.{_≡_}
 
 -- each element has it
 unfoldable pub Every : {A : Type 0} → (A → Type 0) → List A → Type 0
 Every P [] = Unit {0}
 Every P (x ∷ xs) = P x × Every P xs
+
+-- some element has it
+unfoldable pub Some : {A : Type 0} → (A → Type 0) → List A → Type 0
+Some P [] = ⊥
+Some P (x ∷ xs) = P x ⊎ Some P xs
 
 -- as many of the one as of the other, each with its own
 unfoldable pub Pairwise : {A B : Type 0} → (A → B → Type 0) → List A → List B → Type 0
@@ -20,6 +26,12 @@ Pairwise P (x ∷ xs) (y ∷ ys) = P x y × Pairwise P xs ys
 unfoldable pub ExactlyOne : {A : Type 0} → (A → Type 0) → List A → Type 0
 ExactlyOne P [] = ⊥
 ExactlyOne P (x ∷ xs) = (P x × Every (λ y. P y → ⊥) xs) ⊎ ((P x → ⊥) × ExactlyOne P xs)
+
+-- two elements, one right behind the other
+unfoldable pub Neighbours : {A : Type 0} → A → A → List A → Type 0
+Neighbours p f [] = ⊥
+Neighbours p f (x ∷ []) = ⊥
+Neighbours p f (x ∷ y ∷ ys) = ((x ≡ p) × (y ≡ f)) ⊎ Neighbours p f (y ∷ ys)
 
 -- the elements of all lists, in order
 unfoldable pub flat : {A : Type 0} → List (List A) → List A

@@ -1,0 +1,161 @@
+-- Elements of lists: of a cutting in which some key rises, each stands in exactly one part.
+-- Assumes nothing.
+use mathlib.Core.Path.{_≡_, refl, sym, ap, subst, _∙_}
+use mathlib.Core.Bool.{Bool, true, false}
+use mathlib.Core.List.{List, [], _∷_, _++_}
+use mathlib.Core.Logic.{_⊎_, inl, inr, ⊎-elim}
+use Prim.Native.Nat.{ℕ, _+_, _<_, _≤_}
+use native.Mathlib.Omega.{arith}
+use Rattle.stream.specs.Lists.{Every, Some, Pairwise, ExactlyOne, Neighbours, flat, final, Across, Cut}
+use Rattle.stream.specs.Sending.{Kept}
+use Rattle.stream.proofs.Marking.{Rising, rising-down}
+
+abbrev pub In : Kept → List Kept → Type 0
+In f xs = Some (λ x. x ≡ f) xs
+
+-- what each has, an element has; and what each element has, each has
+pub every-in : (P : Kept → Type 0) (xs : List Kept) (f : Kept) → Every P xs → In f xs → P f
+unfolding Every Some
+every-in P [] f h i = absurd i
+every-in P (x ∷ xs) f h (inl e) = subst P e (h .0)
+every-in P (x ∷ xs) f h (inr i) = every-in P xs f (h .1) i
+
+pub in-every : (P : Kept → Type 0) (xs : List Kept) → ((f : Kept) → In f xs → P f) → Every P xs
+unfolding Every Some
+in-every P [] h = tt
+in-every P (x ∷ xs) h = (h x (inl refl), in-every P xs (λ f i. h f (inr i)))
+
+-- one that has it is an element that has it
+pub some-in : (P : Kept → Type 0) (xs : List Kept) (f : Kept) → In f xs → P f → Some P xs
+unfolding Some
+some-in P [] f i p = absurd i
+some-in P (x ∷ xs) f (inl e) p = inl (subst P (sym e) p)
+some-in P (x ∷ xs) f (inr i) p = inr (some-in P xs f i p)
+
+pub in-some : (P : Kept → Type 0) (C : Type 0) (xs : List Kept) → Some P xs → ((f : Kept) → In f xs → P f → C) → C
+unfolding Some
+in-some P C [] s k = absurd s
+in-some P C (x ∷ xs) (inl p) k = k x (inl refl) p
+in-some P C (x ∷ xs) (inr s) k = in-some P C xs s (λ f i p. k f (inr i) p)
+
+-- in two lists, one behind the other
+pub in-front : (g h : List Kept) (f : Kept) → In f g → In f (g ++ h)
+unfolding Some
+in-front [] h f i = absurd i
+in-front (x ∷ g) h f (inl e) = inl e
+in-front (x ∷ g) h f (inr i) = inr (in-front g h f i)
+
+pub in-behind : (g h : List Kept) (f : Kept) → In f h → In f (g ++ h)
+unfolding Some
+in-behind [] h f i = i
+in-behind (x ∷ g) h f i = inr (in-behind g h f i)
+
+in-either : (g h : List Kept) (f : Kept) → In f (g ++ h) → In f g ⊎ In f h
+unfolding Some
+in-either [] h f i = inr i
+in-either (x ∷ g) h f (inl e) = inl (inl e)
+in-either (x ∷ g) h f (inr i) = ⊎-elim (λ (j : In f g). inl (inr j)) (λ (j : In f h). inr j) (in-either g h f i)
+
+module _ (key : Kept → ℕ) where
+  -- keys from low on
+  above : (xs : List Kept) (low : ℕ) (f : Kept) → Rising key low xs → In f xs → low ≤ key f
+  unfolding Rising Some
+  above [] low f r i = absurd i
+  above (x ∷ xs) low f r (inl e) = subst (λ (y : Kept). low ≤ key y) e (r .0)
+  above (x ∷ xs) low f r (inr i) = omega (arith, r .0, above xs (key x + 1) f (r .1) i)
+
+  -- elements of one key are one
+  pub unique : (xs : List Kept) (low : ℕ) (f g : Kept) → Rising key low xs → In f xs → In g xs → key f ≡ key g → f ≡ g
+  unfolding Rising Some
+  unique [] low f g r i j e = absurd i
+  unique (x ∷ xs) low f g r (inl a) (inl b) e = sym a ∙ b
+  unique (x ∷ xs) low f g r (inl a) (inr j) e = absurd (omega (arith, above xs (key x + 1) g (r .1) j, ap key a, e))
+  unique (x ∷ xs) low f g r (inr i) (inl b) e = absurd (omega (arith, above xs (key x + 1) f (r .1) i, ap key b, e))
+  unique (x ∷ xs) low f g r (inr i) (inr j) e = unique xs (key x + 1) f g (r .1) i j e
+
+  -- behind the first part the keys are above those in it
+  parted : (g h : List Kept) (low : ℕ) (f : Kept) → Rising key low (g ++ h) → In f g → In f h → ⊥
+  unfolding Rising Some
+  parted [] h low f r i j = i
+  parted (x ∷ g) h low f r (inl e) j = omega (arith, above (g ++ h) (key x + 1) f (r .1) (in-behind g h f j), ap key e)
+  parted (x ∷ g) h low f r (inr i) j = parted g h (key x + 1) f (r .1) i j
+
+  rising-behind : (g h : List Kept) (low : ℕ) → Rising key low (g ++ h) → Rising key low h
+  unfolding Rising
+  rising-behind [] h low r = r
+  rising-behind (x ∷ g) h low r = rising-down key h low (key x + 1) (omega (arith, r .0)) (rising-behind g h (key x + 1) (r .1))
+
+-- parts gs of the records rs, each handed out as one of os
+module _ {O : Type 0} (P : List Kept → O → Type 0) (rs : List Kept) where
+  abbrev Among : List Kept → Type 0
+  Among g = (x : Kept) → In x g → In x rs
+
+  -- what is so of each
+  pub each : (Q : O → Type 0) → ((g : List Kept) (o : O) → P g o → Among g → Q o) → (gs : List (List Kept)) (os : List O) → Pairwise P gs os → Among (flat gs) → Every Q os
+  unfolding Pairwise Every flat
+  each Q q [] [] h a = tt
+  each Q q [] (o ∷ os) h a = absurd h
+  each Q q (g ∷ gs) [] h a = absurd h
+  each Q q (g ∷ gs) (o ∷ os) h a = (q g o (h .0) (λ x i. a x (in-front g (flat gs) x i)), each Q q gs os (h .1) (λ x i. a x (in-behind g (flat gs) x i)))
+
+  -- what is so of one
+  pub some-out : (Q : O → Type 0) (B : List Kept → Type 0) → ((g : List Kept) (o : O) → P g o → Among g → B g → Q o)
+      → (gs : List (List Kept)) (os : List O) → Pairwise P gs os → Among (flat gs) → Some B gs → Some Q os
+  unfolding Pairwise Some flat
+  some-out Q B q [] os h a s = absurd s
+  some-out Q B q (g ∷ gs) [] h a s = absurd h
+  some-out Q B q (g ∷ gs) (o ∷ os) h a (inl b) = inl (q g o (h .0) (λ x i. a x (in-front g (flat gs) x i)) b)
+  some-out Q B q (g ∷ gs) (o ∷ os) h a (inr s) = inr (some-out Q B q gs os (h .1) (λ x i. a x (in-behind g (flat gs) x i)) s)
+
+  -- f is in a part exactly when what is handed out for it is its own: then it has exactly one
+  module _ (Own : O → Type 0) (f : Kept) (own-in : (g : List Kept) (o : O) → P g o → Among g → In f g → Own o) (in-own : (g : List Kept) (o : O) → P g o → Among g → Own o → In f g) where
+    none : (gs : List (List Kept)) (os : List O) → Pairwise P gs os → Among (flat gs) → (In f (flat gs) → ⊥) → Every (λ o. Own o → ⊥) os
+    unfolding Pairwise Every flat
+    none [] [] h a n = tt
+    none [] (o ∷ os) h a n = absurd h
+    none (g ∷ gs) [] h a n = absurd h
+    none (g ∷ gs) (o ∷ os) h a n = (
+      λ q. n (in-front g (flat gs) f (in-own g o (h .0) (λ x i. a x (in-front g (flat gs) x i)) q)),
+      none gs os (h .1) (λ x i. a x (in-behind g (flat gs) x i)) (λ i. n (in-behind g (flat gs) f i)),
+    )
+
+    pub once : (key : Kept → ℕ) (gs : List (List Kept)) (os : List O) (low : ℕ) → Pairwise P gs os → Among (flat gs) → Rising key low (flat gs) → In f (flat gs) → ExactlyOne Own os
+    unfolding Pairwise ExactlyOne flat Some
+    once key [] os low h a r i = absurd i
+    once key (g ∷ gs) [] low h a r i = absurd h
+    once key (g ∷ gs) (o ∷ os) low h a r i = go (in-either g (flat gs) f i) (λ j. once key gs os low (h .1) behind (rising-behind key g (flat gs) low r) j)
+      where
+        front : Among g
+        front = λ x i. a x (in-front g (flat gs) x i)
+
+        behind : Among (flat gs)
+        behind = λ x i. a x (in-behind g (flat gs) x i)
+
+        go : In f g ⊎ In f (flat gs) → (In f (flat gs) → ExactlyOne Own os) → ExactlyOne Own (o ∷ os)
+        go (inl j) ih = inl (own-in g o (h .0) front j, none gs os (h .1) behind (λ q. parted key g (flat gs) low f r j q))
+        go (inr j) ih = inr (λ q. parted key g (flat gs) low f r (in-own g o (h .0) front q) j, ih j)
+
+-- neighbours stand in one part, or at the end of one and the start of the next
+module _ (R S : Kept → Kept → Type 0) (p f : Kept) where
+  abbrev Both : List Kept → Type 0
+  Both g = In p g × In f g
+
+  within : (xs : List Kept) (x : Kept) (gs : List (List Kept)) → Across S (final x xs) gs → Cut R S gs → (Neighbours p f (flat gs) → Some Both gs ⊎ S p f)
+      → Neighbours p f ((x ∷ xs) ++ flat gs) → Some Both ((x ∷ xs) ∷ gs) ⊎ S p f
+  unfolding Across Cut flat Neighbours Some final
+  within [] x [] a c ih n = absurd n
+  within [] x ([] ∷ gs) a c ih n = absurd a
+  within [] x ((y ∷ ys) ∷ gs) a c ih (inl e) = inr (subst (λ (z : Kept). S z f) (e .0) (subst (S x) (e .1) a))
+  within [] x ((y ∷ ys) ∷ gs) a c ih (inr n) = ⊎-elim (λ (s : Some Both ((y ∷ ys) ∷ gs)). inl (inr s)) (λ (s : S p f). inr s) (ih n)
+  within (y ∷ ys) x gs a c ih (inl e) = inl (inl (inl (e .0), inr (inl (e .1))))
+  within (y ∷ ys) x gs a c ih (inr n) = ⊎-elim wider (λ (s : S p f). inr s) (within ys y gs a c ih n)
+    where
+      wider : Some Both ((y ∷ ys) ∷ gs) → Some Both ((x ∷ y ∷ ys) ∷ gs) ⊎ S p f
+      wider (inl b) = inl (inl (inr (b .0), inr (b .1)))
+      wider (inr s) = inl (inr s)
+
+  pub beside : (gs : List (List Kept)) → Cut R S gs → Neighbours p f (flat gs) → Some Both gs ⊎ S p f
+  unfolding Cut flat Neighbours
+  beside [] c n = absurd n
+  beside ([] ∷ gs) c n = absurd c
+  beside ((x ∷ xs) ∷ gs) c n = within xs x gs (c .1) (c .2) (λ m. beside gs (c .2) m) n

@@ -1,0 +1,179 @@
+-- Each kept record has exactly one accumulation and one major frame of its own.
+-- Assumes nothing.
+use mathlib.Core.Path.{_≡_, refl, sym, ap, subst, subst⁻¹, _∙_}
+use mathlib.Core.Bool.{Bool, true, false, true≢false}
+use mathlib.Core.List.{List, [], _∷_}
+use mathlib.Core.Logic.{_⊎_, inl, inr, ⊎-elim}
+use Prim.Native.Nat.{ℕ, _+_, _/_, _%_, _<_, _≤_}
+use native.Mathlib.Decide.{ℕ-discrete}
+use native.Mathlib.Omega.{arith}
+use Rattle.tables.specs.Marks.{bitSet}
+use Rattle.carriage.specs.Carriage.{types}
+use Rattle.state.specs.List.{fresh}
+use Rattle.reader.specs.Steps.{Buffers}
+use Rattle.stream.specs.Lists.{Every, Some, Pairwise, ExactlyOne, Neighbours, flat, Linked, Cut}
+use Rattle.stream.specs.Running.{Sized, Trace, Allowed, ClosedAccumulation, ClosedMajor, accumulations, majors}
+use Rattle.stream.specs.Sending.{realTime, next, Fate, Sends, fed, Refused, Kept, keptOf, reals}
+use Rattle.stream.specs.Cutting.{at, typeOf, round, major, Joined, Torn, Beside, Behind}
+use Rattle.stream.specs.Filling.{Stands, Filled, slot, Slotted, MajorFilled}
+use Rattle.stream.specs.Once.{OfRound, Own, Unmixed, OwnMajor, Once}
+use Rattle.stream.proofs.Chains.{Next, Chain, chain}
+use Rattle.stream.proofs.Grouping.{all-share}
+use Rattle.stream.proofs.Marking.{Rising, rising-down}
+use Rattle.stream.proofs.Reals.{reals-more, reals-same, rising-reals}
+use Rattle.stream.proofs.Members.{In, every-in, in-every, some-in, in-some, each, some-out, once, unique, beside}
+use Rattle.stream.proofs.Demand.{demand-3}
+
+-- counts rise, and the real-time ones' numbers, which give their types
+pub record Known (f : Kept) : Type 0 where
+  pub typed : typeOf f ≡ f .serial % types
+
+serial : Kept → ℕ
+serial f = f .serial
+
+rising-counts : (xs : List Kept) (c k l : ℕ) → Chain c k l xs → Rising at c xs
+unfolding Chain Rising
+rising-counts [] c k l h = tt
+rising-counts (x ∷ xs) c k l h = (omega (arith, h .0 .counted, h .0 .losing), rising-counts xs (at x + 1) (next (x .serial) (x .bytes)) (x .lost) (h .1))
+
+rising-serials : (xs : List Kept) (c k l : ℕ) → Chain c k l xs → Rising serial k (reals xs)
+unfolding Chain Rising reals serial
+rising-serials [] c k l h = tt
+rising-serials (x ∷ xs) c k l h = go (realTime (x .bytes)) refl (rising-serials xs (at x + 1) (next (x .serial) (x .bytes)) (x .lost) (h .1))
+  where
+    go : (t : Bool) → realTime (x .bytes) ≡ t → Rising serial (next (x .serial) (x .bytes)) (reals xs) → Rising serial k (reals (x ∷ xs))
+    go true e r = rw e (h .0 .rising, rw e at r)
+    go false e r = rw e (rising-down serial (reals xs) k (x .serial) (h .0 .rising) (rw e at r))
+
+all-known : (xs : List Kept) (c k l : ℕ) → Chain c k l xs → Every Known (reals xs)
+unfolding Chain Every reals
+all-known [] c k l h = tt
+all-known (x ∷ xs) c k l h = go (realTime (x .bytes)) refl (all-known xs (at x + 1) (next (x .serial) (x .bytes)) (x .lost) (h .1))
+  where
+    go : (t : Bool) → realTime (x .bytes) ≡ t → Every Known (reals xs) → Every Known (reals (x ∷ xs))
+    go true e r = rw e (record { typed = h .0 .typed e }, r)
+    go false e r = rw e r
+
+-- one of them has it, or none
+found : (key : Kept → ℕ) (u : ℕ) (g : List Kept) → Some (λ f. key f ≡ u) g ⊎ Every (λ f. key f ≡ u → ⊥) g
+unfolding Some Every
+found key u [] = inr tt
+found key u (x ∷ g) = go (ℕ-discrete (key x) u) (found key u g)
+  where
+    go : Dec (key x ≡ u) → Some (λ f. key f ≡ u) g ⊎ Every (λ f. key f ≡ u → ⊥) g → Some (λ f. key f ≡ u) (x ∷ g) ⊎ Every (λ f. key f ≡ u → ⊥) (x ∷ g)
+    go (yes e) r = inl (inl e)
+    go (no e) (inl s) = inl (inr s)
+    go (no e) (inr n) = inr (e, n)
+
+-- a part of a cutting, with what links it
+unfoldable Tied : (Kept → Kept → Type 0) → List Kept → Type 0
+Tied R [] = ⊥
+Tied R (x ∷ xs) = Linked R x xs
+
+all-tied : {O : Type 0} (R S : Kept → Kept → Type 0) (P : List Kept → O → Type 0) (gs : List (List Kept)) (os : List O) → Cut R S gs → Pairwise P gs os → Pairwise (λ g o. P g o × Tied R g) gs os
+unfolding Cut Pairwise Tied
+all-tied R S P [] [] c h = tt
+all-tied R S P [] (o ∷ os) c h = absurd h
+all-tied R S P (g ∷ gs) [] c h = absurd h
+all-tied R S P ([] ∷ gs) (o ∷ os) c h = absurd c
+all-tied R S P ((x ∷ xs) ∷ gs) (o ∷ os) c h = ((h .0, c .0), all-tied R S P gs os (c .2) (h .1))
+
+-- an accumulation is all of one round
+one-round : (fs : List Kept) (p f : Kept) → Linked Joined p fs → In f (p ∷ fs) → round f ≡ round p
+one-round fs p f l i = every-in (λ x. round x ≡ round p) (p ∷ fs) f (all-share (λ (x : Kept). round x) Joined (λ p f j. j .same) fs p l) i
+
+-- the accumulations of the kept real-time records rs
+module _ (rs : List Kept) (c k : ℕ) (counts : Rising at c rs) (serials : Rising serial k rs) (known : Every Known rs) where
+  abbrev Part : List Kept → ClosedAccumulation → Type 0
+  Part g a = Filled g a × Tied Joined g
+
+  abbrev Among : List Kept → Type 0
+  Among g = (x : Kept) → In x g → In x rs
+
+  -- a record of the part has its accumulation
+  part-own : (f : Kept) (g : List Kept) (a : ClosedAccumulation) → Part g a → Among g → In f g → Own rs f a
+  unfolding Tied Some
+  part-own f [] a p w i = absurd i
+  part-own f (h ∷ t) a p w i = (
+    every-in (λ f. Stands f a) (h ∷ t) f (p .0 .own) i .held,
+    some-in (λ x. (at x ≡ a .report .first) × (round x ≡ round f)) rs h (w h (inl refl)) (sym (p .0 .first), sym (one-round t h f (p .1) i)),
+  )
+
+  -- one of its round and type is that record
+  same-record : (f x : Kept) → In f rs → In x rs → round x ≡ round f → typeOf x ≡ typeOf f → x ≡ f
+  unfolding serial
+  same-record f x i j r e =
+      let a = every-in Known rs f known i .typed in
+      let b = every-in Known rs x known j .typed in
+      unique serial rs k x f serials j i (omega arith)
+
+  -- and whose accumulation it is, is in the part
+  own-part : (f : Kept) → In f rs → (g : List Kept) (a : ClosedAccumulation) → Part g a → Among g → Own rs f a → In f g
+  unfolding Tied Some
+  own-part f i [] a p w o = absurd (p .1)
+  own-part f i (h ∷ t) a p w o =
+      in-some (λ x. (at x ≡ a .report .first) × (round x ≡ round f)) (In f (h ∷ t)) rs (o .1) (λ x j q.
+      let e : x ≡ h = unique at rs c x h counts j (w h (inl refl)) (q .0 ∙ p .0 .first) in
+      let r : round h ≡ round f = subst (λ (y : Kept). round y ≡ round f) e (q .1) in
+      ⊎-elim (λ (s : Some (λ y. typeOf y ≡ typeOf f) (h ∷ t)). from r s) (λ (n : Every (λ y. typeOf y ≡ typeOf f → ⊥) (h ∷ t)). absurd (none n)) (found typeOf (typeOf f) (h ∷ t)))
+    where
+      from : round h ≡ round f → Some (λ y. typeOf y ≡ typeOf f) (h ∷ t) → In f (h ∷ t)
+      from r s = in-some (λ y. typeOf y ≡ typeOf f) (In f (h ∷ t)) (h ∷ t) s (λ y j e.
+          subst (λ (z : Kept). In z (h ∷ t)) (same-record f y i (w y j) (one-round t h y (p .1) j ∙ r) e) j)
+
+      none : Every (λ y. typeOf y ≡ typeOf f → ⊥) (h ∷ t) → ⊥
+      none n = let b = every-in Known rs f known i .typed in true≢false (sym (o .0) ∙ p .0 .others (typeOf f) (omega arith) n .unheld)
+
+  -- what is held comes from one round
+  unmixed-part : (g : List Kept) (a : ClosedAccumulation) → Part g a → Among g → Unmixed rs a
+  unmixed-part g a p w = record {
+    held = λ u l e. ⊎-elim (λ (s : Some (λ y. typeOf y ≡ u) g). from u s) (λ (n : Every (λ y. typeOf y ≡ u → ⊥) g). absurd (true≢false (sym e ∙ p .0 .others u l n .unheld))) (found typeOf u g);
+    unheld = λ u l e. p .0 .others u l (in-every (λ y. typeOf y ≡ u → ⊥) g (λ y j q. true≢false (sym (every-in (λ f. Stands f a) g y (p .0 .own) j .held) ∙ ap (λ (n : ℕ). bitSet (a .report .held) n) q ∙ e)));
+  }
+    where
+      from : (u : ℕ) → Some (λ y. typeOf y ≡ u) g → Some (λ f. (typeOf f ≡ u) × Own rs f a × Stands f a) rs
+      from u s = in-some (λ y. typeOf y ≡ u) (Some (λ f. (typeOf f ≡ u) × Own rs f a × Stands f a) rs) g s (λ y j e.
+          some-in (λ f. (typeOf f ≡ u) × Own rs f a × Stands f a) rs y (w y j) (e, part-own y g a p w j, every-in (λ f. Stands f a) g y (p .0 .own) j))
+
+-- the major frames of the kept records rs
+module _ (rs : List Kept) (c : ℕ) (counts : Rising at c rs) where
+  abbrev Slotting : List Kept → ClosedMajor → Type 0
+  Slotting g m = MajorFilled g m × Tied Beside g
+
+  slot-own : (f : Kept) (g : List Kept) (m : ClosedMajor) → Slotting g m → ((x : Kept) → In x g → In x rs) → In f g → OwnMajor f m
+  slot-own f g m p w i = let s = every-in (λ f. Slotted f m) g f (p .0 .own) i in (s .number, s .held)
+
+  own-slot : (f : Kept) → In f rs → (g : List Kept) (m : ClosedMajor) → Slotting g m → ((x : Kept) → In x g → In x rs) → OwnMajor f m → In f g
+  own-slot f i g m p w o =
+      ⊎-elim (λ (s : Some (λ y. slot y ≡ slot f) g). from s) (λ (n : Every (λ y. slot y ≡ slot f → ⊥) g). absurd (true≢false (sym (o .1) ∙ p .0 .no-slot (slot f) (omega arith) n .unheld))) (found (λ (x : Kept). slot x) (slot f) g)
+    where
+      from : Some (λ y. slot y ≡ slot f) g → In f g
+      from s = in-some (λ y. slot y ≡ slot f) (In f g) g s (λ y j e.
+          let n : major y ≡ major f = sym (every-in (λ f. Slotted f m) g y (p .0 .own) j .number) ∙ o .0 in
+          subst (λ (z : Kept). In z g) (unique at rs c y f counts (w y j) i (omega arith)) j)
+
+pub once-each : (xs : List Fate) (b : Buffers) (c k : ℕ) → Sized b → Sends c k xs → (t : Trace) → Allowed fresh b (fed xs) t → Refused xs t → Once k xs t
+once-each xs b c k z w t a q =
+    let d = demand-3 xs b c k z w t a q in
+    let ks = keptOf k 0 xs in
+    let rs = reals ks in
+    let ch = chain xs c k 0 w in
+    let counts = rising-counts ks c k 0 ch in
+    let rcounts = rising-reals at ks c counts in
+    let serials = rising-serials ks c k 0 ch in
+    let known = all-known ks c k 0 ch in
+    let parts = all-tied Joined Torn Filled (d .rounds) (accumulations t) (d .rounds-cut) (d .rounds-out) in
+    let slots = all-tied Beside Behind MajorFilled (d .frames) (majors t) (d .frames-cut) (d .frames-out) in
+    let here : (x : Kept) → In x (flat (d .rounds)) → In x rs = λ x i. subst (In x) (d .rounds-whole) i in
+    let there : (x : Kept) → In x (flat (d .frames)) → In x ks = λ x i. subst (In x) (d .frames-whole) i in
+    record {
+      one = in-every _ rs (λ f i. once (Part rs c k rcounts serials known) rs (Own rs f) f (part-own rs c k rcounts serials known f) (own-part rs c k rcounts serials known f i) serial (d .rounds) (accumulations t) k parts here (subst⁻¹ (Rising serial k) (d .rounds-whole) serials) (subst⁻¹ (In f) (d .rounds-whole) i));
+      there = in-every _ rs (λ f i. each (Part rs c k rcounts serials known) rs (λ a. Own rs f a → Stands f a) (λ g a p w o. every-in (λ f. Stands f a) g f (p .0 .own) (own-part rs c k rcounts serials known f i g a p w o)) (d .rounds) (accumulations t) parts here);
+      unmixed = each (Part rs c k rcounts serials known) rs (Unmixed rs) (unmixed-part rs c k rcounts serials known) (d .rounds) (accumulations t) parts here;
+      torn = λ p f n r.
+          ⊎-elim (λ (s : Some (λ g. In p g × In f g) (d .rounds)). inl (some-out (Part rs c k rcounts serials known) rs (λ a. Own rs p a × Own rs f a) (λ g. In p g × In f g) (λ g a q w i. (part-own rs c k rcounts serials known p g a q w (i .0), part-own rs c k rcounts serials known f g a q w (i .1))) (d .rounds) (accumulations t) parts here s))
+          (λ (s : Torn p f). inr (s r))
+          (beside Joined Torn p f (d .rounds) (d .rounds-cut) (subst⁻¹ (Neighbours p f) (d .rounds-whole) n));
+      one-major = in-every _ ks (λ f i. once (Slotting ks c counts) ks (OwnMajor f) f (slot-own ks c counts f) (own-slot ks c counts f i) (λ x. at x) (d .frames) (majors t) c slots there (subst⁻¹ (Rising at c) (d .frames-whole) counts) (subst⁻¹ (In f) (d .frames-whole) i));
+      there-major = in-every _ ks (λ f i. each (Slotting ks c counts) ks (λ m. OwnMajor f m → Slotted f m) (λ g m p w o. every-in (λ f. Slotted f m) g f (p .0 .own) (own-slot ks c counts f i g m p w o)) (d .frames) (majors t) slots there);
+    }
