@@ -13,3 +13,5 @@ pub mod Slots
 pub mod Sums
 pub mod Demand
 pub mod Once
+pub mod Made
+pub mod Tight

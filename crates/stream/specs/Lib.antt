@@ -5,3 +5,4 @@ pub mod Cutting
 pub mod Filling
 pub mod Demand
 pub mod Once
+pub mod Tight

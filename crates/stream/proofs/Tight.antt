@@ -1,0 +1,169 @@
+-- Demand 3's 36 is the best bound: a stream that is torn by 36 lost counts, and none by fewer.
+-- Assumes nothing.
+use mathlib.Core.Path.{_≡_, refl, sym, ap, subst, subst⁻¹, _∙_}
+use mathlib.Core.Bool.{Bool, true, false, true≢false}
+use mathlib.Core.List.{List, [], _∷_, _++_}
+use mathlib.Core.Logic.{_⊎_, inl, inr, ⊎-elim}
+use Prim.Native.Nat.{ℕ, zero, suc, _+_, _-_, _%_, _<_, _≤_}
+use native.Mathlib.Omega.{arith}
+use lib.IntN.{ℤ, pos}
+use lib.ListN.{length, replicate, length-replicate}
+use Rattle.tables.specs.Marks.{bitSet}
+use Rattle.carriage.specs.Carriage.{types}
+use Rattle.cells.specs.Laying.{cellsSize}
+use Rattle.state.specs.Accumulation.{most}
+use Rattle.state.specs.List.{fresh}
+use Rattle.state.specs.declared.State.{State}
+use Rattle.reader.specs.Buffers.{frameSamples}
+use Rattle.reader.specs.Steps.{Buffers}
+use Rattle.stream.specs.Lists.{Every, Some, Pairwise, Neighbours, flat, Linked, Across, Cut, final}
+use Rattle.stream.specs.Running.{Sized, Trace, step, run, ClosedAccumulation, accumulations}
+use Rattle.stream.specs.Sending.{realTime, next, Fate, kept, removed, extra, Sends, fed, Refused, Kept, keptOf, reals}
+use Rattle.stream.specs.Cutting.{typeOf, round, lostBetween, Joined, Torn}
+use Rattle.stream.specs.Filling.{Filled}
+use Rattle.stream.specs.Once.{Own}
+use Rattle.stream.specs.Tight.{TornBy, Tight}
+use Rattle.stream.proofs.Runs.{run-allowed}
+use Rattle.stream.proofs.Demand.{demand-3}
+use Rattle.stream.proofs.Once.{once-each}
+use Rattle.stream.proofs.Made.{made, five, six, real-five, real-six, other-filler, sent-five, sent-six, sent-filler}
+
+neither : (P Q : ClosedAccumulation → Type 0) (xs : List ClosedAccumulation) → Every (λ a. P a → Q a → ⊥) xs → Some (λ a. P a × Q a) xs → ⊥
+unfolding Every Some
+neither P Q [] e s = s
+neither P Q (x ∷ xs) e (inl b) = e .0 (b .0) (b .1)
+neither P Q (x ∷ xs) e (inr s) = neither P Q xs (e .1) s
+
+-- "torn only where 36 or more counts weren't accepted"
+none-below : (n : ℕ) → n < 36 → TornBy n → ⊥
+none-below n h t =
+    let o = once-each (t .fates) (t .lent) (t .count) (t .serial) (t .sized) (t .sent) (run fresh (t .lent) (fed (t .fates))) (run-allowed (fed (t .fates)) fresh (t .lent)) (t .refused) in
+    ⊎-elim (λ (s : Some (λ a. Own (reals (keptOf (t .serial) 0 (t .fates))) (t .before) a × Own (reals (keptOf (t .serial) 0 (t .fates))) (t .after) a) (accumulations (run fresh (t .lent) (fed (t .fates))))). neither _ _ _ (t .apart) s)
+    (λ (s : 36 ≤ lostBetween (t .before) (t .after)). omega (arith, t .lost))
+    (o .torn (t .before) (t .after) (t .neighbours) (t .one-round))
+
+-- n other records from count c on, none of them kept
+lose : ℕ → ℕ → List Fate → List Fate
+lose c zero xs = xs
+lose c (suc n) xs = removed (made c 62) ∷ lose (c + 1) n xs
+
+lose-sent : (n c k : ℕ) (xs : List Fate) → 100 ≤ c → c + n < 140 → Sends (c + n) k xs → Sends c k (lose c n xs)
+unfolding lose Sends
+lose-sent zero c k xs l h s = let e : c ≡ c + 0 = omega arith in subst⁻¹ (λ (d : ℕ). Sends d k xs) e s
+lose-sent (suc n) c k xs l h s =
+    let e : c + suc n ≡ c + 1 + n = omega arith in
+    (sent-filler c k l (omega arith), rw (other-filler c) (lose-sent n (c + 1) k xs (omega arith) (omega arith) (subst (λ (d : ℕ). Sends d k xs) e s)))
+
+next-filler : (k c : ℕ) → next k (made c 62) ≡ k
+next-filler k c = rw (other-filler c)
+
+lose-kept : (n c k l : ℕ) (xs : List Fate) → keptOf k l (lose c n xs) ≡ keptOf k (l + n) xs
+unfolding lose keptOf
+lose-kept zero c k l xs = let e : l ≡ l + 0 = omega arith in ap (λ (m : ℕ). keptOf k m xs) e
+lose-kept (suc n) c k l xs = let e : l + 1 + n ≡ l + suc n = omega arith in ap (λ (j : ℕ). keptOf j (l + 1) (lose (c + 1) n xs)) (next-filler k c) ∙ lose-kept n (c + 1) k (l + 1) xs ∙ ap (λ (m : ℕ). keptOf k m xs) e
+
+lose-refused : (n c : ℕ) (xs : List Fate) (t : Trace) → Refused xs t → Refused (lose c n xs) t
+unfolding lose Refused
+lose-refused zero c xs t h = h
+lose-refused (suc n) c xs t h = lose-refused n (c + 1) xs t h
+
+lose-fed : (n c : ℕ) (xs : List Fate) → fed (lose c n xs) ≡ fed xs
+unfolding lose fed
+lose-fed zero c xs = refl
+lose-fed (suc n) c xs = lose-fed n (c + 1) xs
+
+-- type 5 at count 100, then 36 that are lost, then type 6 at count 137
+stream : List Fate
+stream = kept (made 100 5) ∷ lose 101 36 (kept (made 137 6) ∷ [])
+
+sent : Sends 100 5 stream
+unfolding stream Sends
+sent = (sent-five 100 5 (omega arith) (omega arith) refl, rw (real-five 100) (lose-sent 36 101 6 _ (omega arith) (omega arith) (sent-six 137 6 (omega arith) (omega arith) refl, tt)))
+
+before : Kept
+before = record { bytes = made 100 5; serial = 5; lost = 0 }
+
+after : Kept
+after = record { bytes = made 137 6; serial = 6; lost = 36 }
+
+are-kept : reals (keptOf 5 0 stream) ≡ before ∷ after ∷ []
+unfolding stream keptOf reals before after
+are-kept = rw (real-five 100, lose-kept 36 101 6 0 (kept (made 137 6) ∷ []), real-six 137)
+
+lent : Buffers
+lent = record { openCells = replicate cellsSize 0; finishedCells = replicate cellsSize 0; openSamples = replicate frameSamples (pos 0); finishedSamples = replicate frameSamples (pos 0) }
+
+sized : Sized lent
+unfolding lent
+sized = record { cells-open = length-replicate {A = ℕ} cellsSize 0; cells-finished = length-replicate {A = ℕ} cellsSize 0; samples-open = length-replicate {A = ℤ} frameSamples (pos 0); samples-finished = length-replicate {A = ℤ} frameSamples (pos 0) }
+
+none-spoiled : Refused stream (run fresh lent (fed stream))
+unfolding stream Refused run fed
+none-spoiled = rw (lose-fed 36 101 (kept (made 137 6) ∷ [])) (lose-refused 36 101 (kept (made 137 6) ∷ []) _ tt)
+
+-- two records that can't stand together stand each by itself
+heads : (x y p f : Kept) (xs : List Kept) → x ∷ y ∷ xs ≡ p ∷ f ∷ [] → (x ≡ p) × (y ≡ f)
+heads x y p f xs e = (cc, cc)
+
+by-themselves : (R S : Kept → Kept → Type 0) (gs : List (List Kept)) (p f : Kept) → (R p f → ⊥) → flat gs ≡ p ∷ f ∷ [] → Cut R S gs → gs ≡ (p ∷ []) ∷ (f ∷ []) ∷ []
+unfolding flat Cut Linked
+by-themselves R S [] p f n e c = let y : _≡_ {A = ℕ} 0 2 = ap length e in absurd (omega arith)
+by-themselves R S ([] ∷ gs) p f n e c = absurd c
+by-themselves R S ((x ∷ y ∷ xs) ∷ gs) p f n e c = let h = heads x y p f _ e in absurd (n (subst (λ (z : Kept). R z f) (h .0) (subst (R x) (h .1) (c .0 .0))))
+by-themselves R S ((x ∷ []) ∷ []) p f n e c = let y : _≡_ {A = ℕ} 1 2 = ap length e in absurd (omega arith)
+by-themselves R S ((x ∷ []) ∷ ([] ∷ gs)) p f n e c = absurd (c .2)
+by-themselves R S ((x ∷ []) ∷ ((y ∷ []) ∷ [])) p f n e c = let h = heads x y p f [] e in rw (h .0, h .1)
+by-themselves R S ((x ∷ []) ∷ ((y ∷ []) ∷ ([] ∷ gs))) p f n e c = absurd (c .2 .2)
+by-themselves R S ((x ∷ []) ∷ ((y ∷ []) ∷ ((z ∷ zs) ∷ gs))) p f n e c = let h : suc (suc (suc (length (zs ++ flat gs)))) ≡ 2 = ap length e in absurd (omega arith)
+by-themselves R S ((x ∷ []) ∷ ((y ∷ z ∷ zs) ∷ gs)) p f n e c = let h : suc (suc (suc (length (zs ++ flat gs)))) ≡ 2 = ap length e in absurd (omega arith)
+
+type-before : typeOf before ≡ 5
+unfolding before
+type-before = five 100 (omega arith) (omega arith) .typed
+
+type-after : typeOf after ≡ 6
+unfolding after
+type-after = six 137 (omega arith) (omega arith) .typed
+
+-- 36 are more than may be missing between types 5 and 6
+far : Joined before after → ⊥
+unfolding before after
+far j = omega (arith, j .near, type-before, type-after)
+
+-- an accumulation of the one alone hasn't the type of the other
+alone : (p f : Kept) (a : ClosedAccumulation) → typeOf f < types → (typeOf p ≡ typeOf f → ⊥) → Filled (p ∷ []) a → bitSet (a .report .held) (typeOf f) ≡ true → ⊥
+unfolding Every
+alone p f a h n q e = true≢false (sym e ∙ q .others (typeOf f) h (n, tt) .unheld)
+
+apart : (rs : List Kept) (os : List ClosedAccumulation) → Pairwise Filled ((before ∷ []) ∷ (after ∷ []) ∷ []) os → Every (λ a. Own rs before a → Own rs after a → ⊥) os
+unfolding Pairwise Every
+apart rs [] h = absurd h
+apart rs (a ∷ []) h = absurd (h .1)
+apart rs (a ∷ b ∷ []) h = (
+  λ p q. alone before after a (omega (arith, type-after)) (λ e. omega (arith, type-before, type-after)) (h .0) (q .0),
+  (λ p q. alone after before b (omega (arith, type-before)) (λ e. omega (arith, type-before, type-after)) (h .1 .0) (p .0), tt),
+)
+apart rs (a ∷ b ∷ c ∷ os) h = absurd (h .1 .1)
+
+pub tight : Tight
+unfolding Neighbours
+tight = record {
+  torn-36 = record {
+    fates = stream;
+    count = 100;
+    serial = 5;
+    sent = sent;
+    lent = lent;
+    sized = sized;
+    refused = none-spoiled;
+    before = before;
+    after = after;
+    neighbours = subst⁻¹ (Neighbours before after) are-kept (inl (refl, refl));
+    one-round = unfold before after in refl;
+    lost = unfold before after in refl;
+    apart =
+        let d = demand-3 stream lent 100 5 sized sent (run fresh lent (fed stream)) (run-allowed (fed stream) fresh lent) none-spoiled in
+        apart (reals (keptOf 5 0 stream)) _ (subst (λ (gs : List (List Kept)). Pairwise Filled gs (accumulations (run fresh lent (fed stream)))) (by-themselves Joined Torn (d .rounds) before after far (d .rounds-whole ∙ are-kept) (d .rounds-cut)) (d .rounds-out));
+  };
+  none-below = none-below;
+}
