@@ -26,6 +26,8 @@ use Rattle.state.specs.declared.State.{State}
 use Rattle.state.specs.declared.accumulation.Accumulation.{Accumulation}
 use Rattle.state.specs.declared.accumulation.AccumulationReport.{AccumulationReport}
 use Rattle.state.specs.declared.accumulation.AccumulationStep.{AccumulationStep}
+use Rattle.state.specs.declared.accumulation.Gap.the-variants.{Joins}
+use Rattle.state.specs.declared.deciding.Answer.the-variants.{Accepted}
 use Rattle.state.specs.declared.deciding.Decided.{Decided}
 use Rattle.state.specs.declared.major.Major.{Major}
 use Rattle.state.specs.declared.major.MajorReport.{MajorReport}
@@ -132,6 +134,17 @@ module _ (s : State) (b : Buffers) (x : Kept) (e : numberOf (input s b (x .bytes
 
   is-taken : called s b (x .bytes) ≡ callOf s b (x .bytes) taken
   is-taken = call-is s b (x .bytes) taken (accepted-is (input s b (x .bytes)) e)
+
+  -- one that opens an accumulation, and one that joins
+  pub opening : realTime (x .bytes) ≡ true → joins (s .accumulation) (typeOf x) (at x) ≡ false → length (b .openCells) ≡ cellsSize
+      → (called s b (x .bytes) .result .state .accumulation ≡ started (typeOf x) (at x)) × (called s b (x .bytes) .left .openCells ≡ cellsWith x noCells)
+  unfolding acceptedAt stepAccumulation cellsWith
+  opening r j n = rw (is-taken, r, j, n) (refl, refl)
+
+  pub joining : realTime (x .bytes) ≡ true → joins (s .accumulation) (typeOf x) (at x) ≡ true
+      → (called s b (x .bytes) .result .answer ≡ Accepted (record { fields = recordOf (x .bytes); gap = Joins })) × (called s b (x .bytes) .left .openCells ≡ cellsWith x (b .openCells))
+  unfolding acceptedAt stepAccumulation cellsWith
+  joining r j = rw (is-taken, r, j) (refl, refl)
 
   module _ (t : Trace) (xs : List Kept) where
     -- the accumulation and the open cells

@@ -40,7 +40,7 @@ type-is f = refl
 
 -- one frame laid: its own type's cells and pair, and another's
 module _ (f : Kept) (c : List ℕ) (t : Typed f) where
-  laid-science : (k : ℕ) → k < scienceSize → getD (cellsWith f c) (place (typeOf f) k) 0 ≡ getD (scienceBytes (packet f)) k 0
+  pub laid-science : (k : ℕ) → k < scienceSize → getD (cellsWith f c) (place (typeOf f) k) 0 ≡ getD (scienceBytes (packet f)) k 0
   unfolding cellsWith recordOf
   laid-science k h = own-cell (codeOf f) (scienceBytes (packet f)) c k (t .small) h
 
@@ -49,7 +49,7 @@ module _ (f : Kept) (c : List ℕ) (t : Typed f) where
   laid-pair = own-pair (codeOf f) (scienceBytes (packet f)) c (t .small) (t .code)
 
   module _ (u : ℕ) (n : typeOf f ≡ u → ⊥) (h : u < types) where
-    other-science : (k : ℕ) → k < scienceSize → getD (cellsWith f c) (place u k) 0 ≡ getD c (place u k) 0
+    pub other-science : (k : ℕ) → k < scienceSize → getD (cellsWith f c) (place u k) 0 ≡ getD c (place u k) 0
     unfolding cellsWith recordOf
     other-science k l = other-cell (codeOf f) (scienceBytes (packet f)) c (place u k) (place-cell u k h l) (λ e. n (sym e ∙ carrier-place u k h l))
 

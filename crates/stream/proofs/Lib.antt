@@ -15,3 +15,4 @@ pub mod Demand
 pub mod Once
 pub mod Made
 pub mod Tight
+pub mod Readers

@@ -1,4 +1,4 @@
--- Records written out, for streams by example.
+-- Records and buffers written out, for streams by example.
 -- Assumes nothing.
 use mathlib.Core.Logic.{_⊎_, inl, inr}
 use mathlib.Core.Path.{_≡_, refl, sym, ap, subst, _∙_}
@@ -7,7 +7,9 @@ use mathlib.Core.List.{List, [], _∷_, _++_}
 use Prim.Native.Nat.{ℕ, zero, suc, _+_, _-_, _%_, _<_, _≤_}
 use native.Mathlib.Omega.{arith}
 use lib.Dec.{T, eqb, ltb, eqb→eq, ltb→lt}
-use lib.ListN.{getD, replicate}
+use lib.IntN.{ℤ, pos}
+use lib.ListN.{getD, replicate, length-replicate}
+use Rattle.cells.specs.Laying.{cellsSize}
 use Rattle.bits.specs.Numbers.{bitOf, bit, join, number}
 use Rattle.bits.specs.Twelve.{Bytes}
 use Rattle.tables.specs.Upto.{both, upto}
@@ -17,10 +19,13 @@ use Rattle.record.specs.Frame.{kindOf, kindOfType}
 use Rattle.record.specs.Rules.{rules, broken, sizeHolds, syncHolds, spacecraftHolds, rateHolds, spareHolds, dayHolds, millisecondHolds, statusSpareHolds, flagsHold, typeHolds}
 use Rattle.record.specs.Contents.{recordOf}
 use Rattle.state.specs.Deciding.{isRealTime}
+use Rattle.reader.specs.Buffers.{frameSamples}
+use Rattle.reader.specs.Steps.{Buffers}
+use Rattle.stream.specs.Running.{Sized}
 use Rattle.stream.specs.Sending.{realTime, SentAt}
 
 -- a record at count c, below 256, with Frame Code t and ones in the rest of the packet; day 1, flags 01
-pub made : ℕ → ℕ → List ℕ
+unfoldable pub made : ℕ → ℕ → List ℕ
 made c t =
     (0x1A ∷ 0xCF ∷ 0xFC ∷ 0x1D ∷ 0x66 ∷ 0xC5 ∷ 0 ∷ 0 ∷ c ∷ 0 ∷ [])
     ++ (replicate 276 0 ++ (t ∷ (replicate 169 1 ++ (0 ∷ 1 ∷ (replicate 13 0 ++ (0x15 ∷ []))))))
@@ -100,3 +105,11 @@ module _ (c k : ℕ) (l : 100 ≤ c) (h : c < 140) where
 
   pub sent-filler : SentAt c k (made c 62)
   sent-filler = let r = filler c l h in record { bytes = r .bytes; passes = r .passes; counted = r .counted; typed = λ t. absurd (true≢false (sym t ∙ other-filler c)) }
+
+-- buffers of 0
+unfoldable pub lent : Buffers
+lent = record { openCells = replicate cellsSize 0; finishedCells = replicate cellsSize 0; openSamples = replicate frameSamples (pos 0); finishedSamples = replicate frameSamples (pos 0) }
+
+pub sized : Sized lent
+unfolding lent
+sized = record { cells-open = length-replicate {A = ℕ} cellsSize 0; cells-finished = length-replicate {A = ℕ} cellsSize 0; samples-open = length-replicate {A = ℤ} frameSamples (pos 0); samples-finished = length-replicate {A = ℤ} frameSamples (pos 0) }

@@ -79,7 +79,7 @@ pub record Ready (s : State) (b : Buffers) (c : ℕ) : Type 0 where
   pub ahead : (d : ℕ) → c ≤ d → later (s .clock) d ≡ true
 
 -- it accepts a record that passes rules 2 to 11
-accepts : (s : State) (b : Buffers) (r : List ℕ) → Sound s → Sized b → broken r ≡ 0 → later (s .clock) (recordOf r .count) ≡ true → numberOf (input s b r) ≡ 0
+pub accepts : (s : State) (b : Buffers) (r : List ℕ) → Sound s → Sized b → broken r ≡ 0 → later (s .clock) (recordOf r .count) ≡ true → numberOf (input s b r) ≡ 0
 unfolding stateHolds clockHolds guardHolds
 accepts s b r h z e l = go (guardHolds i) refl
   where
@@ -91,7 +91,7 @@ accepts s b r h z e l = go (guardHolds i) refl
     go false t = absurd (never-13 i (number-is i ∙ rw (is-sized b z, h .passes, eq-eqb (broken r) 0 e, l, t)))
 
 -- and is ready for the next count
-moves : (s : State) (b : Buffers) (r : List ℕ) (c : ℕ) → Ready s b c → recordOf r .count ≡ c → numberOf (input s b r) ≡ 0 → Ready (called s b r .result .state) (called s b r .left) (c + 1)
+pub moves : (s : State) (b : Buffers) (r : List ℕ) (c : ℕ) → Ready s b c → recordOf r .count ≡ c → numberOf (input s b r) ≡ 0 → Ready (called s b r .result .state) (called s b r .left) (c + 1)
 unfolding called acceptedAt later
 moves s b r c h e n = record {
   sound = step-sound (input s b r) (h .sound);

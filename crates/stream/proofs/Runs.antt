@@ -17,7 +17,7 @@ use Rattle.state.specs.declared.deciding.Stepped.{Stepped}
 use Rattle.state.specs.declared.ending.Finished.{Finished}
 use Rattle.state.proofs.Told.{accepted-is, refused-is}
 use Rattle.state.proofs.Keeping.{step-sound, end-sound}
-use Rattle.reader.specs.Steps.{Buffers, buffers, sized, input, stepped, ended}
+use Rattle.reader.specs.Steps.{Buffers, buffers, sized, input, stepped, ended, StepIs}
 use Rattle.stream.specs.Lists.{Every}
 use Rattle.stream.specs.Running.{Call, End, Trace, step, finish, called, run, Allowed, states}
 
@@ -52,16 +52,22 @@ module _ {oc oc′ fc fc′ : List ℕ} {os os′ fs fs′ : List ℤ} (a : oc �
   same-last : (x y : Finished) → x ≡ y → last x oc fc os fs ≡ last y oc′ fc′ os′ fs′
   same-last x y e = rw (e, a, b, c, d)
 
--- whatever meets the promises at each call has this trace
+-- whatever meets the promise of step is this call
+pub only-call : (s : State) (b : Buffers) (r : List ℕ) (c : Call)
+    → StepIs s (b .openCells) (b .finishedCells) (b .openSamples) (b .finishedSamples) r (c .result) (c .left .openCells) (c .left .finishedCells) (c .left .openSamples) (c .left .finishedSamples)
+    → c ≡ called s b r
+unfolding called
+only-call s b r c h = same-call (h .cells-open) (h .cells-finished) (h .samples-open) (h .samples-finished) _ _ (h .result)
+
+-- and at each call has this trace
 pub only-run : (rs : List (List ℕ)) (s : State) (b : Buffers) (t : Trace) → Allowed s b rs t → t ≡ run s b rs
-unfolding Allowed run called
+unfolding Allowed run
 only-run [] s b (finish e) h = ap finish (same-last (h .cells-open) (h .cells-finished) (h .samples-open) (h .samples-finished) _ _ (h .result))
 only-run [] s b (step c t) h = absurd h
 only-run (r ∷ rs) s b (finish e) h = absurd h
 only-run (r ∷ rs) s b (step c t) h =
-    let p = h .0 in
-    let e : c ≡ called s b r = same-call (p .cells-open) (p .cells-finished) (p .samples-open) (p .samples-finished) _ _ (p .result) in
-    ap (step c) (only-run rs (c .result .state) (c .left) t (h .1)) ∙ ap (λ (x : Call). step x (run (x .result .state) (x .left) rs)) e
+    ap (step c) (only-run rs (c .result .state) (c .left) t (h .1))
+    ∙ ap (λ (x : Call). step x (run (x .result .state) (x .left) rs)) (only-call s b r c (h .0))
 
 -- and it does meet them
 pub run-allowed : (rs : List (List ℕ)) (s : State) (b : Buffers) → Allowed s b rs (run s b rs)

@@ -6,16 +6,12 @@ use mathlib.Core.List.{List, [], _∷_, _++_}
 use mathlib.Core.Logic.{_⊎_, inl, inr, ⊎-elim}
 use Prim.Native.Nat.{ℕ, zero, suc, _+_, _-_, _%_, _<_, _≤_}
 use native.Mathlib.Omega.{arith}
-use lib.IntN.{ℤ, pos}
-use lib.ListN.{length, replicate, length-replicate}
+use lib.ListN.{length}
 use Rattle.tables.specs.Marks.{bitSet}
 use Rattle.carriage.specs.Carriage.{types}
-use Rattle.cells.specs.Laying.{cellsSize}
 use Rattle.state.specs.Accumulation.{most}
 use Rattle.state.specs.List.{fresh}
 use Rattle.state.specs.declared.State.{State}
-use Rattle.reader.specs.Buffers.{frameSamples}
-use Rattle.reader.specs.Steps.{Buffers}
 use Rattle.stream.specs.Lists.{Every, Some, Pairwise, Neighbours, flat, Linked, Across, Cut, final}
 use Rattle.stream.specs.Running.{Sized, Trace, step, run, ClosedAccumulation, accumulations}
 use Rattle.stream.specs.Sending.{realTime, next, Fate, kept, removed, extra, Sends, fed, Refused, Kept, keptOf, reals}
@@ -26,7 +22,7 @@ use Rattle.stream.specs.Tight.{TornBy, Tight}
 use Rattle.stream.proofs.Runs.{run-allowed}
 use Rattle.stream.proofs.Demand.{demand-3}
 use Rattle.stream.proofs.Once.{once-each}
-use Rattle.stream.proofs.Made.{made, five, six, real-five, real-six, other-filler, sent-five, sent-six, sent-filler}
+use Rattle.stream.proofs.Made.{lent, sized, made, five, six, real-five, real-six, other-filler, sent-five, sent-six, sent-filler}
 
 neither : (P Q : ClosedAccumulation → Type 0) (xs : List ClosedAccumulation) → Every (λ a. P a → Q a → ⊥) xs → Some (λ a. P a × Q a) xs → ⊥
 unfolding Every Some
@@ -89,13 +85,6 @@ after = record { bytes = made 137 6; serial = 6; lost = 36 }
 are-kept : reals (keptOf 5 0 stream) ≡ before ∷ after ∷ []
 unfolding stream keptOf reals before after
 are-kept = rw (real-five 100, lose-kept 36 101 6 0 (kept (made 137 6) ∷ []), real-six 137)
-
-lent : Buffers
-lent = record { openCells = replicate cellsSize 0; finishedCells = replicate cellsSize 0; openSamples = replicate frameSamples (pos 0); finishedSamples = replicate frameSamples (pos 0) }
-
-sized : Sized lent
-unfolding lent
-sized = record { cells-open = length-replicate {A = ℕ} cellsSize 0; cells-finished = length-replicate {A = ℕ} cellsSize 0; samples-open = length-replicate {A = ℤ} frameSamples (pos 0); samples-finished = length-replicate {A = ℤ} frameSamples (pos 0) }
 
 none-spoiled : Refused stream (run fresh lent (fed stream))
 unfolding stream Refused run fed

@@ -14,6 +14,17 @@ use Rattle.stream.specs.Sending.{Fate, Accepted, Kept, keptOf, reals}
 use Rattle.stream.specs.Cutting.{Accumulations, MajorFrames}
 use Rattle.stream.specs.Filling.{Filled, MajorFilled}
 
+-- "the cells filled number 83 times the real-time frames left unspoiled": the cells of the listing's accum lines
+abbrev pub CellsSum : ℕ → List Fate → Trace → Type 0
+CellsSum k xs t = sum (λ a. cellsHeld (a .report)) (accumulations t) ≡ scienceSize * length (reals (keptOf k 0 xs))
+
+-- and of its major lines the cells, 54 times those frames, and the frames, the records left unspoiled
+abbrev pub SamplesSum : ℕ → List Fate → Trace → Type 0
+SamplesSum k xs t = sum (λ m. samplesHeld (m .frame)) (majors t) ≡ samplesSize * length (reals (keptOf k 0 xs))
+
+abbrev pub SlotsSum : ℕ → List Fate → Trace → Type 0
+SlotsSum k xs t = sum (λ m. slotsHeld (m .frame)) (majors t) ≡ length (keptOf k 0 xs)
+
 -- of a sent stream whose first real-time record has number k, with its fates, and the trace of what was fed
 pub record Demand3 (k : ℕ) (xs : List Fate) (t : Trace) : Type 0 where
   -- every kept record is accepted
@@ -29,9 +40,8 @@ pub record Demand3 (k : ℕ) (xs : List Fate) (t : Trace) : Type 0 where
   pub frames-whole : flat frames ≡ keptOf k 0 xs
   pub frames-cut : MajorFrames frames
   pub frames-out : Pairwise MajorFilled frames (majors t)
-  -- "the cells filled number 83 times the real-time frames left unspoiled"; and the listing's other numbers
-  pub cells-sum : sum (λ a. cellsHeld (a .report)) (accumulations t) ≡ scienceSize * length (reals (keptOf k 0 xs))
-  pub samples-sum : sum (λ m. samplesHeld (m .frame)) (majors t) ≡ samplesSize * length (reals (keptOf k 0 xs))
-  pub slots-sum : sum (λ m. slotsHeld (m .frame)) (majors t) ≡ length (keptOf k 0 xs)
+  pub cells-sum : CellsSum k xs t
+  pub samples-sum : SamplesSum k xs t
+  pub slots-sum : SlotsSum k xs t
   -- the state list is kept throughout
   pub listed : Every Sound (states t)

@@ -6,3 +6,4 @@ pub mod Filling
 pub mod Demand
 pub mod Once
 pub mod Tight
+pub mod Readers
