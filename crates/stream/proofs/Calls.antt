@@ -1,27 +1,21 @@
 -- One call: an accepted record moves the accumulation with its cells and the major frame with its samples, each by itself; a
 -- refused one moves nothing.
 -- Assumes nothing.
-use mathlib.Core.Path.{_≡_, refl, sym, ap, subst⁻¹, _∙_}
+use mathlib.Core.Path.{_≡_, refl, ap, subst⁻¹}
 use mathlib.Core.Bool.{Bool, true, false, cond, _&&_}
 use mathlib.Core.List.{List, [], _∷_, _++_}
 use Prim.Native.Nat.{ℕ, _*_, _<_}
 use native.Mathlib.Omega.{arith}
-use lib.Dec.{eqb}
 use lib.IntN.{ℤ, pos}
 use lib.ListN.{length, replicate}
-use borrow.Author.Tests.{eqb-true, eq-eqb}
 use Rattle.buffers.specs.Laying.{patch}
 use Rattle.record.specs.Layout.{packetBytes, frameCode, magBytes, scienceBytes}
-use Rattle.record.specs.Rules.{broken}
 use Rattle.record.specs.Contents.{recordOf}
 use Rattle.mag.specs.Samples.{samplesSize, range, samples}
 use Rattle.cells.specs.Laying.{cellsSize, laidFrame}
-use Rattle.state.specs.Clock.{later}
-use Rattle.state.specs.Accumulation.{isOpen, joins, joined, started, passed, unreported, reported, extends, renews, passes, stepAccumulation}
+use Rattle.state.specs.Accumulation.{isOpen, joins, joined, started, passed, unreported, reported, stepAccumulation}
 use Rattle.state.specs.Major.{slotOf, majorOpen, noMajor, continues, into, majorUnreported, majorReported, stays, turns, stepMajor}
-use Rattle.state.specs.List.{listed}
-use Rattle.state.specs.Deciding.{isRealTime, Input, dated, stateHolds, clockHolds, guardHolds, numberOf, refusal, acceptedAt, acceptance, decidedOf, answerNumber}
-use Rattle.state.specs.Ending.{ending, endedOf}
+use Rattle.state.specs.Deciding.{numberOf, refusal, acceptedAt, acceptance, decidedOf, answerNumber}
 use Rattle.state.specs.declared.State.{State}
 use Rattle.state.specs.declared.accumulation.Accumulation.{Accumulation}
 use Rattle.state.specs.declared.accumulation.AccumulationReport.{AccumulationReport}
@@ -34,8 +28,8 @@ use Rattle.state.specs.declared.major.MajorReport.{MajorReport}
 use Rattle.state.specs.declared.major.MajorStep.{MajorStep}
 use Rattle.state.proofs.Told.{accepted-is, refused-is}
 use Rattle.reader.specs.Buffers.{frameSamples, copiedBy}
-use Rattle.reader.specs.Steps.{Buffers, sizedBy, sized, input, cellsAfter, samplesAfter}
-use Rattle.stream.specs.Running.{Call, Trace, step, finish, ClosedAccumulation, ClosedMajor, called, run, accumulationOut, majorOut, accumulations, majors}
+use Rattle.reader.specs.Steps.{Buffers, input, cellsAfter, samplesAfter}
+use Rattle.stream.specs.Running.{Call, Trace, step, ClosedAccumulation, ClosedMajor, called, accumulationOut, majorOut, accumulations, majors}
 use Rattle.stream.specs.Sending.{realTime, Kept}
 use Rattle.stream.specs.Cutting.{at, typeOf}
 use Rattle.stream.specs.Filling.{packet}
@@ -161,7 +155,11 @@ module _ (s : State) (b : Buffers) (x : Kept) (e : numberOf (input s b (x .bytes
 
         go : (p q : Bool) → accumulations t ≡ accumulate (stepOf p q .next) (cellsAfter (stepOf p q .work) (packet x) (b .openCells)) xs
             → accumulationOut (stepOf p q .report) (copiedBy (stepOf p q .work .copies) (b .openCells) (b .finishedCells)) ++ accumulations t
-            ≡ cond p (cond q (accumulate (joined (s .accumulation) (typeOf x) (at x)) (cellsWith x (b .openCells)) xs) (closing (s .accumulation) (b .openCells) ++ accumulate (started (typeOf x) (at x)) (cellsWith x noCells) xs)) (accumulate (passed (s .accumulation)) (b .openCells) xs)
+            ≡ cond p
+            (cond q
+            (accumulate (joined (s .accumulation) (typeOf x) (at x)) (cellsWith x (b .openCells)) xs)
+            (closing (s .accumulation) (b .openCells) ++ accumulate (started (typeOf x) (at x)) (cellsWith x noCells) xs))
+            (accumulate (passed (s .accumulation)) (b .openCells) xs)
         go true true h = h
         go true false h = rw (cells-out (s .accumulation) (b .openCells) (b .finishedCells), h, n)
         go false q h = h
@@ -176,10 +174,15 @@ module _ (s : State) (b : Buffers) (x : Kept) (e : numberOf (input s b (x .bytes
     samples-call n = subst⁻¹ FromSamples is-taken (λ h. go (continues (s .major) (at x)) h)
       where
         stepOf : Bool → MajorStep
-        stepOf p = cond p (stays (s .major) (at x) (realTime (x .bytes)) (range (magBytes (packet x))) (recordOf (x .bytes) .subcom)) (turns (s .major) (at x) (realTime (x .bytes)) (range (magBytes (packet x))) (recordOf (x .bytes) .subcom))
+        stepOf p =
+            cond p
+            (stays (s .major) (at x) (realTime (x .bytes)) (range (magBytes (packet x))) (recordOf (x .bytes) .subcom))
+            (turns (s .major) (at x) (realTime (x .bytes)) (range (magBytes (packet x))) (recordOf (x .bytes) .subcom))
 
         go : (p : Bool) → majors t ≡ collect (stepOf p .next) (samplesAfter (stepOf p .work) (packet x) (slotOf (at x)) (b .openSamples)) xs
             → majorOut (stepOf p .report) (copiedBy (stepOf p .work .copies) (b .openSamples) (b .finishedSamples)) ++ majors t
-            ≡ cond p (collect (majorWith x (s .major)) (samplesWith x (b .openSamples)) xs) (majorClosing (s .major) (b .openSamples) ++ collect (majorWith x noMajor) (samplesWith x noSamples) xs)
+            ≡ cond p
+            (collect (majorWith x (s .major)) (samplesWith x (b .openSamples)) xs)
+            (majorClosing (s .major) (b .openSamples) ++ collect (majorWith x noMajor) (samplesWith x noSamples) xs)
         go true h = h
         go false h = rw (samples-out (s .major) (b .openSamples) (b .finishedSamples), h, n)

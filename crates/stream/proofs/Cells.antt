@@ -1,19 +1,19 @@
 -- The cells and marks of an accumulation: each of its frames' bytes in their own places, 0 in all others.
 -- Assumes nothing.
 use mathlib.Core.Path.{_≡_, refl, sym, ap, _∙_}
-use mathlib.Core.Bool.{true, false}
-use mathlib.Core.List.{List, [], _∷_, _++_}
+use mathlib.Core.Bool.{true}
+use mathlib.Core.List.{List, [], _∷_}
 use Prim.Native.Nat.{ℕ, _+_, _-_, _*_, _%_, _^_, _<_}
 use native.Mathlib.Nat.{zero-add, div-eq-of-lt}
 use native.Mathlib.Omega.{arith}
 use lib.Count.{ones, onesIn}
 use lib.ListN.{length, getD, getD-replicate, length-replicate}
 use lib.Pow.{pow-pos}
-use Rattle.tables.specs.Marks.{bitSet, marked}
+use Rattle.tables.specs.Marks.{marked}
 use Rattle.tables.proofs.Marks.{bits-above}
-use Rattle.record.specs.Layout.{packetBytes, frameCode, scienceBytes}
+use Rattle.record.specs.Layout.{frameCode, scienceBytes}
 use Rattle.record.specs.Contents.{recordOf}
-use Rattle.carriage.specs.Carriage.{types, scienceSize, cells, place, carrier}
+use Rattle.carriage.specs.Carriage.{types, scienceSize, cells, place}
 use Rattle.carriage.proofs.EachCell.{place-cell, carrier-place}
 use Rattle.cells.specs.Laying.{cellsSize, topPair, pairCell, pairWeight, pairIn, pairAt}
 use Rattle.cells.proofs.Laws.{length-frame, own-cell, other-cell, own-pair, other-pair}
@@ -21,7 +21,7 @@ use Rattle.stream.specs.Lists.{Every, Linked}
 use Rattle.stream.specs.Running.{ClosedAccumulation}
 use Rattle.stream.specs.Sending.{Kept}
 use Rattle.stream.specs.Cutting.{typeOf, Joined}
-use Rattle.stream.specs.Filling.{packet, Stands, Missing, Filled}
+use Rattle.stream.specs.Filling.{packet, Stands, Filled}
 use Rattle.stream.proofs.Calls.{cellsWith, noCells}
 use Rattle.stream.proofs.Marking.{marksFrom, Rising, Free, free-below, fits-more, marks-stay, marks-first, marks-count, marks-below}
 use Rattle.stream.proofs.Rounds.{cellsFrom, outOf}

@@ -1,14 +1,13 @@
 -- The kept records by themselves: what the numbers of one say of the next.
 -- Assumes nothing.
-use mathlib.Core.Path.{_≡_, refl, sym, subst⁻¹}
+use mathlib.Core.Path.{_≡_, subst⁻¹}
 use mathlib.Core.Bool.{Bool, true, false, cond}
 use mathlib.Core.List.{List, [], _∷_}
-use Prim.Native.Nat.{ℕ, _+_, _%_, _<_, _≤_}
+use Prim.Native.Nat.{ℕ, _+_, _%_, _≤_}
 use native.Mathlib.Omega.{arith}
 use Rattle.bits.specs.Twelve.{Bytes}
-use Rattle.record.specs.Contents.{recordOf}
 use Rattle.carriage.specs.Carriage.{types}
-use Rattle.stream.specs.Sending.{realTime, next, SentAt, Fate, kept, removed, extra, Sends, Kept, keptOf}
+use Rattle.stream.specs.Sending.{realTime, next, Fate, kept, removed, extra, Sends, Kept, keptOf}
 use Rattle.stream.specs.Cutting.{at, typeOf}
 
 -- x is the next kept: count c, real-time number k and l lost ones come before what was sent from here on

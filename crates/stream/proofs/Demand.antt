@@ -1,36 +1,35 @@
 -- Demand 3.
 -- Assumes nothing.
-use mathlib.Core.Path.{_≡_, refl, sym, ap, subst, subst⁻¹, _∙_}
+use mathlib.Core.Path.{_≡_, refl, ap, subst, subst⁻¹, _∙_}
 use mathlib.Core.Bool.{Bool, true, false}
-use mathlib.Core.List.{List, [], _∷_, map}
+use mathlib.Core.List.{List, [], _∷_}
 use Prim.Native.Nat.{ℕ, _+_, _*_, _<_}
 use native.Mathlib.Omega.{arith}
-use lib.ListN.{length, drop, length-append}
+use lib.ListN.{length, drop}
 use lib.Seq.{getD-take, getD-drop}
 use Rattle.bits.specs.Twelve.{Bytes}
-use Rattle.record.specs.Layout.{packetBytes, frameCode}
+use Rattle.record.specs.Layout.{frameCode}
 use Rattle.carriage.specs.Carriage.{scienceSize}
 use Rattle.mag.specs.Samples.{samplesSize}
-use Rattle.listing.specs.Lines.{cellsHeld, slotsHeld, samplesHeld}
 use Rattle.state.specs.Clock.{later}
 use Rattle.state.specs.List.{fresh}
 use Rattle.state.proofs.Keeping.{fresh-sound}
 use Rattle.reader.specs.Steps.{Buffers}
-use Rattle.stream.specs.Lists.{Every, Pairwise, flat, sum}
-use Rattle.stream.specs.Running.{Sized, Trace, run, Allowed, ClosedAccumulation, ClosedMajor, accumulations, majors}
+use Rattle.stream.specs.Lists.{Every, Pairwise, flat}
+use Rattle.stream.specs.Running.{Sized, Trace, run, Allowed}
 use Rattle.stream.specs.Sending.{realTime, Fate, Sends, fed, Refused, Kept, keptOf, reals, next}
 use Rattle.stream.specs.Cutting.{at, Joined, Torn, Beside, Behind}
 use Rattle.stream.specs.Filling.{packet, Filled, MajorFilled}
 use Rattle.stream.specs.Demand.{Demand3}
 use Rattle.stream.proofs.Runs.{only-run, run-sound}
-use Rattle.stream.proofs.Parts.{Ready, Parts, parts}
+use Rattle.stream.proofs.Parts.{Ready, parts}
 use Rattle.stream.proofs.Chains.{Next, Chain, chain}
-use Rattle.stream.proofs.Grouping.{Grouped, each-out}
+use Rattle.stream.proofs.Grouping.{each-out}
 use Rattle.stream.proofs.Rounds.{outOf, rounds}
 use Rattle.stream.proofs.Cells.{Typed, filled}
 use Rattle.stream.proofs.Frames.{majorOf, frames}
 use Rattle.stream.proofs.Slots.{major-filled}
-use Rattle.stream.proofs.Sums.{sum-is, reals-none, reals-length}
+use Rattle.stream.proofs.Sums.{cells-total, samples-total, slots-total}
 
 code-below : (f : Kept) → Bytes (f .bytes) → frameCode (packet f) < 256
 code-below f b = let e = getD-take 168 (drop 286 (f .bytes)) 0 0 (omega arith) ∙ getD-drop 286 (f .bytes) 0 0 in subst⁻¹ (λ (n : ℕ). n < 256) e (b 286)
@@ -82,9 +81,9 @@ module _ (xs : List Fate) (b : Buffers) (c k : ℕ) (z : Sized b) (w : Sends c k
         frames-whole = m .whole;
         frames-cut = m .cut;
         frames-out = frames-out;
-        cells-sum = sum-is Filled (λ a. cellsHeld (a .report)) (λ g. scienceSize * length g) refl (λ g h. omega (arith, length-append g h)) (λ g a f. ap (λ (n : ℕ). scienceSize * n) (f .frames)) (r .groups) _ rounds-out ∙ ap (λ (g : List Kept). scienceSize * length g) (r .whole);
-        samples-sum = sum-is MajorFilled (λ a. samplesHeld (a .frame)) (λ g. samplesSize * length (reals g)) (ap (λ (n : ℕ). samplesSize * n) reals-none) (λ g h. omega (arith, reals-length g h)) (λ g a f. ap (λ (n : ℕ). samplesSize * n) (f .mags)) (m .groups) _ frames-out ∙ ap (λ (g : List Kept). samplesSize * length (reals g)) (m .whole);
-        slots-sum = sum-is MajorFilled (λ a. slotsHeld (a .frame)) length refl length-append (λ g a f. f .slots) (m .groups) _ frames-out ∙ ap length (m .whole);
+        cells-sum = cells-total (r .groups) _ rounds-out ∙ ap (λ (g : List Kept). scienceSize * length g) (r .whole);
+        samples-sum = samples-total (m .groups) _ frames-out ∙ ap (λ (g : List Kept). samplesSize * length (reals g)) (m .whole);
+        slots-sum = slots-total (m .groups) _ frames-out ∙ ap length (m .whole);
         listed = run-sound (fed xs) fresh b fresh-sound;
       }
 

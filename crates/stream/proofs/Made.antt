@@ -1,18 +1,17 @@
 -- Records and buffers written out, for streams by example.
 -- Assumes nothing.
-use mathlib.Core.Logic.{_⊎_, inl, inr}
-use mathlib.Core.Path.{_≡_, refl, sym, ap, subst, _∙_}
+use mathlib.Core.Path.{_≡_, refl, sym, subst, _∙_}
 use mathlib.Core.Bool.{Bool, true, false, true≢false}
 use mathlib.Core.List.{List, [], _∷_, _++_}
 use Prim.Native.Nat.{ℕ, zero, suc, _+_, _-_, _%_, _<_, _≤_}
 use native.Mathlib.Omega.{arith}
 use lib.Dec.{T, eqb, ltb, eqb→eq, ltb→lt}
 use lib.IntN.{ℤ, pos}
-use lib.ListN.{getD, replicate, length-replicate}
+use lib.ListN.{replicate, length-replicate}
 use Rattle.cells.specs.Laying.{cellsSize}
 use Rattle.bits.specs.Numbers.{bitOf, bit, join, number}
 use Rattle.bits.specs.Twelve.{Bytes}
-use Rattle.tables.specs.Upto.{both, upto}
+use Rattle.tables.specs.Upto.{both}
 use Rattle.tables.specs.Rules.{firstBroken}
 use Rattle.tables.proofs.Upto.{both-left, both-right, upto-at}
 use Rattle.record.specs.Frame.{kindOf, kindOfType}
@@ -20,9 +19,10 @@ use Rattle.record.specs.Rules.{rules, broken, sizeHolds, syncHolds, spacecraftH
 use Rattle.record.specs.Contents.{recordOf}
 use Rattle.state.specs.Deciding.{isRealTime}
 use Rattle.reader.specs.Buffers.{frameSamples}
-use Rattle.reader.specs.Steps.{Buffers}
+use Rattle.reader.specs.Steps.{Buffers, buffers}
 use Rattle.stream.specs.Running.{Sized}
 use Rattle.stream.specs.Sending.{realTime, SentAt}
+use Rattle.stream.proofs.Calls.{noCells, noSamples}
 
 -- a record at count c, below 256, with Frame Code t and ones in the rest of the packet; day 1, flags 01
 unfoldable pub made : ℕ → ℕ → List ℕ
@@ -108,8 +108,11 @@ module _ (c k : ℕ) (l : 100 ≤ c) (h : c < 140) where
 
 -- buffers of 0
 unfoldable pub lent : Buffers
-lent = record { openCells = replicate cellsSize 0; finishedCells = replicate cellsSize 0; openSamples = replicate frameSamples (pos 0); finishedSamples = replicate frameSamples (pos 0) }
+lent = buffers noCells noCells noSamples noSamples
 
 pub sized : Sized lent
 unfolding lent
-sized = record { cells-open = length-replicate {A = ℕ} cellsSize 0; cells-finished = length-replicate {A = ℕ} cellsSize 0; samples-open = length-replicate {A = ℤ} frameSamples (pos 0); samples-finished = length-replicate {A = ℤ} frameSamples (pos 0) }
+sized =
+    let c = length-replicate {A = ℕ} cellsSize 0 in
+    let s = length-replicate {A = ℤ} frameSamples (pos 0) in
+    record { cells-open = c; cells-finished = c; samples-open = s; samples-finished = s }

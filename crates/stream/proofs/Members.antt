@@ -1,10 +1,9 @@
 -- Elements of lists: of a cutting in which some key rises, each stands in exactly one part.
 -- Assumes nothing.
 use mathlib.Core.Path.{_≡_, refl, sym, ap, subst, _∙_}
-use mathlib.Core.Bool.{Bool, true, false}
 use mathlib.Core.List.{List, [], _∷_, _++_}
 use mathlib.Core.Logic.{_⊎_, inl, inr, ⊎-elim}
-use Prim.Native.Nat.{ℕ, _+_, _<_, _≤_}
+use Prim.Native.Nat.{ℕ, _+_, _≤_}
 use native.Mathlib.Omega.{arith}
 use Rattle.stream.specs.Lists.{Every, Some, Pairwise, ExactlyOne, Neighbours, flat, final, Across, Cut}
 use Rattle.stream.specs.Sending.{Kept}
@@ -85,13 +84,16 @@ module _ (key : Kept → ℕ) where
   rising-behind [] h low r = r
   rising-behind (x ∷ g) h low r = rising-down key h low (key x + 1) (omega (arith, r .0)) (rising-behind g h (key x + 1) (r .1))
 
+abbrev pub Among : List Kept → List Kept → Type 0
+Among rs g = (x : Kept) → In x g → In x rs
+
+pub among-all : (rs g : List Kept) → g ≡ rs → Among rs g
+among-all rs g e x i = subst (In x) e i
+
 -- parts gs of the records rs, each handed out as one of os
 module _ {O : Type 0} (P : List Kept → O → Type 0) (rs : List Kept) where
-  abbrev Among : List Kept → Type 0
-  Among g = (x : Kept) → In x g → In x rs
-
   -- what is so of each
-  pub each : (Q : O → Type 0) → ((g : List Kept) (o : O) → P g o → Among g → Q o) → (gs : List (List Kept)) (os : List O) → Pairwise P gs os → Among (flat gs) → Every Q os
+  pub each : (Q : O → Type 0) → ((g : List Kept) (o : O) → P g o → Among rs g → Q o) → (gs : List (List Kept)) (os : List O) → Pairwise P gs os → Among rs (flat gs) → Every Q os
   unfolding Pairwise Every flat
   each Q q [] [] h a = tt
   each Q q [] (o ∷ os) h a = absurd h
@@ -99,8 +101,8 @@ module _ {O : Type 0} (P : List Kept → O → Type 0) (rs : List Kept) where
   each Q q (g ∷ gs) (o ∷ os) h a = (q g o (h .0) (λ x i. a x (in-front g (flat gs) x i)), each Q q gs os (h .1) (λ x i. a x (in-behind g (flat gs) x i)))
 
   -- what is so of one
-  pub some-out : (Q : O → Type 0) (B : List Kept → Type 0) → ((g : List Kept) (o : O) → P g o → Among g → B g → Q o)
-      → (gs : List (List Kept)) (os : List O) → Pairwise P gs os → Among (flat gs) → Some B gs → Some Q os
+  pub some-out : (Q : O → Type 0) (B : List Kept → Type 0) → ((g : List Kept) (o : O) → P g o → Among rs g → B g → Q o)
+      → (gs : List (List Kept)) (os : List O) → Pairwise P gs os → Among rs (flat gs) → Some B gs → Some Q os
   unfolding Pairwise Some flat
   some-out Q B q [] os h a s = absurd s
   some-out Q B q (g ∷ gs) [] h a s = absurd h
@@ -108,8 +110,8 @@ module _ {O : Type 0} (P : List Kept → O → Type 0) (rs : List Kept) where
   some-out Q B q (g ∷ gs) (o ∷ os) h a (inr s) = inr (some-out Q B q gs os (h .1) (λ x i. a x (in-behind g (flat gs) x i)) s)
 
   -- f is in a part exactly when what is handed out for it is its own: then it has exactly one
-  module _ (Own : O → Type 0) (f : Kept) (own-in : (g : List Kept) (o : O) → P g o → Among g → In f g → Own o) (in-own : (g : List Kept) (o : O) → P g o → Among g → Own o → In f g) where
-    none : (gs : List (List Kept)) (os : List O) → Pairwise P gs os → Among (flat gs) → (In f (flat gs) → ⊥) → Every (λ o. Own o → ⊥) os
+  module _ (Own : O → Type 0) (f : Kept) (own-in : (g : List Kept) (o : O) → P g o → Among rs g → In f g → Own o) (in-own : (g : List Kept) (o : O) → P g o → Among rs g → Own o → In f g) where
+    none : (gs : List (List Kept)) (os : List O) → Pairwise P gs os → Among rs (flat gs) → (In f (flat gs) → ⊥) → Every (λ o. Own o → ⊥) os
     unfolding Pairwise Every flat
     none [] [] h a n = tt
     none [] (o ∷ os) h a n = absurd h
@@ -119,16 +121,16 @@ module _ {O : Type 0} (P : List Kept → O → Type 0) (rs : List Kept) where
       none gs os (h .1) (λ x i. a x (in-behind g (flat gs) x i)) (λ i. n (in-behind g (flat gs) f i)),
     )
 
-    pub once : (key : Kept → ℕ) (gs : List (List Kept)) (os : List O) (low : ℕ) → Pairwise P gs os → Among (flat gs) → Rising key low (flat gs) → In f (flat gs) → ExactlyOne Own os
+    pub once : (key : Kept → ℕ) (gs : List (List Kept)) (os : List O) (low : ℕ) → Pairwise P gs os → Among rs (flat gs) → Rising key low (flat gs) → In f (flat gs) → ExactlyOne Own os
     unfolding Pairwise ExactlyOne flat Some
     once key [] os low h a r i = absurd i
     once key (g ∷ gs) [] low h a r i = absurd h
     once key (g ∷ gs) (o ∷ os) low h a r i = go (in-either g (flat gs) f i) (λ j. once key gs os low (h .1) behind (rising-behind key g (flat gs) low r) j)
       where
-        front : Among g
+        front : Among rs g
         front = λ x i. a x (in-front g (flat gs) x i)
 
-        behind : Among (flat gs)
+        behind : Among rs (flat gs)
         behind = λ x i. a x (in-behind g (flat gs) x i)
 
         go : In f g ⊎ In f (flat gs) → (In f (flat gs) → ExactlyOne Own os) → ExactlyOne Own (o ∷ os)

@@ -4,7 +4,7 @@ use mathlib.Core.Path.{_≡_, refl, sym, ap, subst, subst⁻¹, _∙_}
 use mathlib.Core.Bool.{Bool, true, false, true≢false}
 use mathlib.Core.List.{List, [], _∷_}
 use mathlib.Core.Logic.{_⊎_, inl, inr, ⊎-elim}
-use Prim.Native.Nat.{ℕ, _+_, _/_, _%_, _<_, _≤_}
+use Prim.Native.Nat.{ℕ, _+_, _%_, _≤_}
 use native.Mathlib.Decide.{ℕ-discrete}
 use native.Mathlib.Omega.{arith}
 use Rattle.tables.specs.Marks.{bitSet}
@@ -14,14 +14,14 @@ use Rattle.reader.specs.Steps.{Buffers}
 use Rattle.stream.specs.Lists.{Every, Some, Pairwise, ExactlyOne, Neighbours, flat, Linked, Cut}
 use Rattle.stream.specs.Running.{Sized, Trace, Allowed, ClosedAccumulation, ClosedMajor, accumulations, majors}
 use Rattle.stream.specs.Sending.{realTime, next, Fate, Sends, fed, Refused, Kept, keptOf, reals}
-use Rattle.stream.specs.Cutting.{at, typeOf, round, major, Joined, Torn, Beside, Behind}
+use Rattle.stream.specs.Cutting.{at, typeOf, round, lostBetween, major, Joined, Torn, Beside, Behind}
 use Rattle.stream.specs.Filling.{Stands, Filled, slot, Slotted, MajorFilled}
-use Rattle.stream.specs.Once.{OfRound, Own, Unmixed, OwnMajor, Once}
-use Rattle.stream.proofs.Chains.{Next, Chain, chain}
+use Rattle.stream.specs.Once.{Own, Unmixed, OwnMajor, Once}
+use Rattle.stream.proofs.Chains.{Chain, chain}
 use Rattle.stream.proofs.Grouping.{all-share}
 use Rattle.stream.proofs.Marking.{Rising, rising-down}
-use Rattle.stream.proofs.Reals.{reals-more, reals-same, rising-reals}
-use Rattle.stream.proofs.Members.{In, every-in, in-every, some-in, in-some, each, some-out, once, unique, beside}
+use Rattle.stream.proofs.Reals.{rising-reals}
+use Rattle.stream.proofs.Members.{In, Among, among-all, every-in, in-every, some-in, in-some, each, some-out, once, unique, beside}
 use Rattle.stream.proofs.Demand.{demand-3}
 
 -- counts rise, and the real-time ones' numbers, which give their types
@@ -87,11 +87,8 @@ module _ (rs : List Kept) (c k : ℕ) (counts : Rising at c rs) (serials : Risin
   abbrev Part : List Kept → ClosedAccumulation → Type 0
   Part g a = Filled g a × Tied Joined g
 
-  abbrev Among : List Kept → Type 0
-  Among g = (x : Kept) → In x g → In x rs
-
   -- a record of the part has its accumulation
-  part-own : (f : Kept) (g : List Kept) (a : ClosedAccumulation) → Part g a → Among g → In f g → Own rs f a
+  part-own : (f : Kept) (g : List Kept) (a : ClosedAccumulation) → Part g a → Among rs g → In f g → Own rs f a
   unfolding Tied Some
   part-own f [] a p w i = absurd i
   part-own f (h ∷ t) a p w i = (
@@ -108,7 +105,7 @@ module _ (rs : List Kept) (c k : ℕ) (counts : Rising at c rs) (serials : Risin
       unique serial rs k x f serials j i (omega arith)
 
   -- and whose accumulation it is, is in the part
-  own-part : (f : Kept) → In f rs → (g : List Kept) (a : ClosedAccumulation) → Part g a → Among g → Own rs f a → In f g
+  own-part : (f : Kept) → In f rs → (g : List Kept) (a : ClosedAccumulation) → Part g a → Among rs g → Own rs f a → In f g
   unfolding Tied Some
   own-part f i [] a p w o = absurd (p .1)
   own-part f i (h ∷ t) a p w o =
@@ -125,7 +122,7 @@ module _ (rs : List Kept) (c k : ℕ) (counts : Rising at c rs) (serials : Risin
       none n = let b = every-in Known rs f known i .typed in true≢false (sym (o .0) ∙ p .0 .others (typeOf f) (omega arith) n .unheld)
 
   -- what is held comes from one round
-  unmixed-part : (g : List Kept) (a : ClosedAccumulation) → Part g a → Among g → Unmixed rs a
+  unmixed-part : (g : List Kept) (a : ClosedAccumulation) → Part g a → Among rs g → Unmixed rs a
   unmixed-part g a p w = record {
     held = λ u l e. ⊎-elim (λ (s : Some (λ y. typeOf y ≡ u) g). from u s) (λ (n : Every (λ y. typeOf y ≡ u → ⊥) g). absurd (true≢false (sym e ∙ p .0 .others u l n .unheld))) (found typeOf u g);
     unheld = λ u l e. p .0 .others u l (in-every (λ y. typeOf y ≡ u → ⊥) g (λ y j q. true≢false (sym (every-in (λ f. Stands f a) g y (p .0 .own) j .held) ∙ ap (λ (n : ℕ). bitSet (a .report .held) n) q ∙ e)));
@@ -135,15 +132,32 @@ module _ (rs : List Kept) (c k : ℕ) (counts : Rising at c rs) (serials : Risin
       from u s = in-some (λ y. typeOf y ≡ u) (Some (λ f. (typeOf f ≡ u) × Own rs f a × Stands f a) rs) g s (λ y j e.
           some-in (λ f. (typeOf f ≡ u) × Own rs f a × Stands f a) rs y (w y j) (e, part-own y g a p w j, every-in (λ f. Stands f a) g y (p .0 .own) j))
 
+  -- all accumulations handed out
+  module _ (gs : List (List Kept)) (os : List ClosedAccumulation) (whole : flat gs ≡ rs) (parts : Pairwise Part gs os) where
+    own-once : Every (λ f. ExactlyOne (Own rs f) os) rs
+    own-once = in-every _ rs (λ f i. once Part rs (Own rs f) f (part-own f) (own-part f i) serial gs os k parts (among-all rs (flat gs) whole) (subst⁻¹ (Rising serial k) whole serials) (subst⁻¹ (In f) whole i))
+
+    own-stands : Every (λ f. Every (λ a. Own rs f a → Stands f a) os) rs
+    own-stands = in-every _ rs (λ f i. each Part rs (λ a. Own rs f a → Stands f a) (λ g a p w o. every-in (λ f. Stands f a) g f (p .0 .own) (own-part f i g a p w o)) gs os parts (among-all rs (flat gs) whole))
+
+    all-unmixed : Every (Unmixed rs) os
+    all-unmixed = each Part rs (Unmixed rs) unmixed-part gs os parts (among-all rs (flat gs) whole)
+
+    torn-where : Cut Joined Torn gs → (p f : Kept) → Neighbours p f rs → round p ≡ round f → Some (λ a. Own rs p a × Own rs f a) os ⊎ (36 ≤ lostBetween p f)
+    torn-where cut p f n r =
+        ⊎-elim (λ (s : Some (λ g. In p g × In f g) gs). inl (some-out Part rs (λ a. Own rs p a × Own rs f a) (λ g. In p g × In f g) (λ g a q w i. (part-own p g a q w (i .0), part-own f g a q w (i .1))) gs os parts (among-all rs (flat gs) whole) s))
+        (λ (s : Torn p f). inr (s r))
+        (beside Joined Torn p f gs cut (subst⁻¹ (Neighbours p f) whole n))
+
 -- the major frames of the kept records rs
 module _ (rs : List Kept) (c : ℕ) (counts : Rising at c rs) where
   abbrev Slotting : List Kept → ClosedMajor → Type 0
   Slotting g m = MajorFilled g m × Tied Beside g
 
-  slot-own : (f : Kept) (g : List Kept) (m : ClosedMajor) → Slotting g m → ((x : Kept) → In x g → In x rs) → In f g → OwnMajor f m
+  slot-own : (f : Kept) (g : List Kept) (m : ClosedMajor) → Slotting g m → Among rs g → In f g → OwnMajor f m
   slot-own f g m p w i = let s = every-in (λ f. Slotted f m) g f (p .0 .own) i in (s .number, s .held)
 
-  own-slot : (f : Kept) → In f rs → (g : List Kept) (m : ClosedMajor) → Slotting g m → ((x : Kept) → In x g → In x rs) → OwnMajor f m → In f g
+  own-slot : (f : Kept) → In f rs → (g : List Kept) (m : ClosedMajor) → Slotting g m → Among rs g → OwnMajor f m → In f g
   own-slot f i g m p w o =
       ⊎-elim (λ (s : Some (λ y. slot y ≡ slot f) g). from s) (λ (n : Every (λ y. slot y ≡ slot f → ⊥) g). absurd (true≢false (sym (o .1) ∙ p .0 .no-slot (slot f) (omega arith) n .unheld))) (found (λ (x : Kept). slot x) (slot f) g)
     where
@@ -152,28 +166,30 @@ module _ (rs : List Kept) (c : ℕ) (counts : Rising at c rs) where
           let n : major y ≡ major f = sym (every-in (λ f. Slotted f m) g y (p .0 .own) j .number) ∙ o .0 in
           subst (λ (z : Kept). In z g) (unique at rs c y f counts (w y j) i (omega arith)) j)
 
+  module _ (gs : List (List Kept)) (os : List ClosedMajor) (whole : flat gs ≡ rs) (parts : Pairwise Slotting gs os) where
+    major-once : Every (λ f. ExactlyOne (OwnMajor f) os) rs
+    major-once = in-every _ rs (λ f i. once Slotting rs (OwnMajor f) f (slot-own f) (own-slot f i) (λ x. at x) gs os c parts (among-all rs (flat gs) whole) (subst⁻¹ (Rising at c) whole counts) (subst⁻¹ (In f) whole i))
+
+    major-slotted : Every (λ f. Every (λ m. OwnMajor f m → Slotted f m) os) rs
+    major-slotted = in-every _ rs (λ f i. each Slotting rs (λ m. OwnMajor f m → Slotted f m) (λ g m p w o. every-in (λ f. Slotted f m) g f (p .0 .own) (own-slot f i g m p w o)) gs os parts (among-all rs (flat gs) whole))
+
 pub once-each : (xs : List Fate) (b : Buffers) (c k : ℕ) → Sized b → Sends c k xs → (t : Trace) → Allowed fresh b (fed xs) t → Refused xs t → Once k xs t
 once-each xs b c k z w t a q =
     let d = demand-3 xs b c k z w t a q in
     let ks = keptOf k 0 xs in
     let rs = reals ks in
-    let ch = chain xs c k 0 w in
-    let counts = rising-counts ks c k 0 ch in
-    let rcounts = rising-reals at ks c counts in
-    let serials = rising-serials ks c k 0 ch in
-    let known = all-known ks c k 0 ch in
+    let chained = chain xs c k 0 w in
+    let counts = rising-counts ks c k 0 chained in
+    let real-counts = rising-reals at ks c counts in
+    let serials = rising-serials ks c k 0 chained in
+    let known = all-known ks c k 0 chained in
     let parts = all-tied Joined Torn Filled (d .rounds) (accumulations t) (d .rounds-cut) (d .rounds-out) in
     let slots = all-tied Beside Behind MajorFilled (d .frames) (majors t) (d .frames-cut) (d .frames-out) in
-    let here : (x : Kept) → In x (flat (d .rounds)) → In x rs = λ x i. subst (In x) (d .rounds-whole) i in
-    let there : (x : Kept) → In x (flat (d .frames)) → In x ks = λ x i. subst (In x) (d .frames-whole) i in
     record {
-      one = in-every _ rs (λ f i. once (Part rs c k rcounts serials known) rs (Own rs f) f (part-own rs c k rcounts serials known f) (own-part rs c k rcounts serials known f i) serial (d .rounds) (accumulations t) k parts here (subst⁻¹ (Rising serial k) (d .rounds-whole) serials) (subst⁻¹ (In f) (d .rounds-whole) i));
-      there = in-every _ rs (λ f i. each (Part rs c k rcounts serials known) rs (λ a. Own rs f a → Stands f a) (λ g a p w o. every-in (λ f. Stands f a) g f (p .0 .own) (own-part rs c k rcounts serials known f i g a p w o)) (d .rounds) (accumulations t) parts here);
-      unmixed = each (Part rs c k rcounts serials known) rs (Unmixed rs) (unmixed-part rs c k rcounts serials known) (d .rounds) (accumulations t) parts here;
-      torn = λ p f n r.
-          ⊎-elim (λ (s : Some (λ g. In p g × In f g) (d .rounds)). inl (some-out (Part rs c k rcounts serials known) rs (λ a. Own rs p a × Own rs f a) (λ g. In p g × In f g) (λ g a q w i. (part-own rs c k rcounts serials known p g a q w (i .0), part-own rs c k rcounts serials known f g a q w (i .1))) (d .rounds) (accumulations t) parts here s))
-          (λ (s : Torn p f). inr (s r))
-          (beside Joined Torn p f (d .rounds) (d .rounds-cut) (subst⁻¹ (Neighbours p f) (d .rounds-whole) n));
-      one-major = in-every _ ks (λ f i. once (Slotting ks c counts) ks (OwnMajor f) f (slot-own ks c counts f) (own-slot ks c counts f i) (λ x. at x) (d .frames) (majors t) c slots there (subst⁻¹ (Rising at c) (d .frames-whole) counts) (subst⁻¹ (In f) (d .frames-whole) i));
-      there-major = in-every _ ks (λ f i. each (Slotting ks c counts) ks (λ m. OwnMajor f m → Slotted f m) (λ g m p w o. every-in (λ f. Slotted f m) g f (p .0 .own) (own-slot ks c counts f i g m p w o)) (d .frames) (majors t) slots there);
+      one = own-once rs c k real-counts serials known (d .rounds) (accumulations t) (d .rounds-whole) parts;
+      there = own-stands rs c k real-counts serials known (d .rounds) (accumulations t) (d .rounds-whole) parts;
+      unmixed = all-unmixed rs c k real-counts serials known (d .rounds) (accumulations t) (d .rounds-whole) parts;
+      torn = torn-where rs c k real-counts serials known (d .rounds) (accumulations t) (d .rounds-whole) parts (d .rounds-cut);
+      one-major = major-once ks c counts (d .frames) (majors t) (d .frames-whole) slots;
+      there-major = major-slotted ks c counts (d .frames) (majors t) (d .frames-whole) slots;
     }

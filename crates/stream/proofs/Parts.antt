@@ -1,8 +1,8 @@
 -- Over a sent stream: what is kept is accepted, and the accumulations and the major frames handed out are those of the kept
 -- records alone, each kind by itself.
 -- Assumes nothing.
-use mathlib.Core.Path.{_≡_, refl, sym, ap, subst, subst⁻¹, _∙_}
-use mathlib.Core.Bool.{Bool, true, false, cond, _&&_}
+use mathlib.Core.Path.{_≡_, refl, ap, subst, subst⁻¹, _∙_}
+use mathlib.Core.Bool.{Bool, true, false, _&&_}
 use mathlib.Core.List.{List, [], _∷_}
 use Prim.Native.Nat.{ℕ, _+_, _*_, _<_, _≤_}
 use native.Mathlib.Omega.{arith}
@@ -22,21 +22,20 @@ use Rattle.state.specs.Clock.{later, accepted}
 use Rattle.state.specs.Major.{slotOf}
 use Rattle.state.specs.List.{listed}
 use Rattle.state.specs.Deciding.{Input, stateHolds, clockHolds, guardHolds, numberOf, acceptedAt, decidedOf, answerNumber}
-use Rattle.state.specs.Ending.{endedOf, endingNumber}
+use Rattle.state.specs.Ending.{endedOf}
 use Rattle.state.specs.Keeping.{Sound}
 use Rattle.state.specs.declared.State.{State}
 use Rattle.state.specs.declared.clock.Clock.{Clock}
 use Rattle.state.specs.declared.deciding.Decided.{Decided}
-use Rattle.state.specs.declared.work.Work.{Work}
 use Rattle.state.proofs.Numbers.{number-is}
 use Rattle.state.proofs.Told.{accepted-is}
 use Rattle.state.proofs.Keeping.{step-sound, never-13}
 use Rattle.reader.specs.Buffers.{frameSamples, copiedBy}
 use Rattle.reader.specs.Steps.{Buffers, sizedBy, sized, input, cellsAfter, samplesAfter}
-use Rattle.stream.specs.Running.{Sized, Call, Trace, step, finish, called, run, accumulations, majors}
-use Rattle.stream.specs.Sending.{next, SentAt, Fate, kept, removed, extra, Sends, fed, Refused, Accepted, Kept, keptOf}
+use Rattle.stream.specs.Running.{Sized, Call, step, called, run, accumulations, majors}
+use Rattle.stream.specs.Sending.{next, Fate, kept, removed, extra, Sends, fed, Refused, Accepted, Kept, keptOf}
 use Rattle.stream.proofs.Runs.{answered, finished}
-use Rattle.stream.proofs.Calls.{accumulate, collect, closing, majorClosing, cells-out, samples-out, refused-call, cells-call, samples-call}
+use Rattle.stream.proofs.Calls.{accumulate, collect, cells-out, samples-out, refused-call, cells-call, samples-call}
 
 is-sized : (b : Buffers) → Sized b → sized b ≡ true
 unfolding sizedBy

@@ -6,7 +6,6 @@ use mathlib.Core.List.{List, [], _∷_}
 use Prim.Native.Nat.{ℕ, _<_}
 use native.Mathlib.Omega.{arith}
 use lib.ListN.{length, getD, getD-replicate}
-use Rattle.record.specs.Layout.{packetBytes, scienceBytes}
 use Rattle.record.specs.Contents.{recordOf}
 use Rattle.carriage.specs.Carriage.{types, place}
 use Rattle.carriage.proofs.EachCell.{place-cell}
@@ -14,7 +13,6 @@ use Rattle.cells.specs.Laying.{cellsSize}
 use Rattle.state.specs.Clock.{later}
 use Rattle.state.specs.Accumulation.{joins, started}
 use Rattle.state.specs.Deciding.{numberOf, acceptedAt, answerNumber}
-use Rattle.state.specs.declared.accumulation.Accumulation.{Accumulation}
 use Rattle.state.specs.declared.accumulation.Gap.the-variants.{Joins}
 use Rattle.state.specs.declared.deciding.Answer.{Answer}
 use Rattle.state.specs.declared.deciding.Answer.the-variants.{Accepted}
@@ -24,9 +22,8 @@ use Rattle.state.specs.List.{fresh}
 use Rattle.state.specs.declared.State.{State}
 use Rattle.reader.specs.Steps.{Buffers, input}
 use Rattle.stream.specs.Running.{Sized, Call, called, Allowed}
-use Rattle.stream.specs.Sending.{realTime, Fate, Sends, fed, Refused, Kept}
+use Rattle.stream.specs.Sending.{Fate, Sends, fed, Refused, Kept}
 use Rattle.stream.specs.Cutting.{at, typeOf}
-use Rattle.stream.specs.Filling.{packet}
 use Rattle.stream.specs.Demand.{Demand3}
 use Rattle.stream.specs.Once.{Once}
 use Rattle.stream.specs.Readers.{Reader, Keeps, traceOf, RefusesAll, FixedAnswer, StoresNothing, Nods, NeverJoins, MadeUp}

@@ -1,24 +1,23 @@
 -- The accumulations of the kept records: what joins is of one round; what is of one round and doesn't join has 36 or more
 -- counts lost between (01, "Joining accumulations").
 -- Assumes nothing.
-use mathlib.Core.Path.{_≡_, refl, sym, ap, subst, subst⁻¹, _∙_}
-use mathlib.Core.Bool.{Bool, true, false, cond, not, _&&_, true≢false, false≢true}
-use mathlib.Core.List.{List, [], _∷_, _++_, map, append-nil, append-assoc}
-use Prim.Native.Nat.{ℕ, _+_, _-_, _/_, _%_, _^_, _<_, _≤_}
+use mathlib.Core.Path.{_≡_, refl, sym, _∙_}
+use mathlib.Core.Bool.{Bool, true, false, true≢false}
+use mathlib.Core.List.{List, [], _∷_, _++_}
+use Prim.Native.Nat.{ℕ, _+_, _-_, _%_, _^_, _<_, _≤_}
 use native.Mathlib.Omega.{arith}
 use native.Mathlib.Nat.{zero-add}
-use lib.Dec.{eqb, ltb, leb}
+use lib.Dec.{ltb, leb}
 use lib.Pow.{pow-pos}
 use borrow.Author.Tests.{ltb-true, leb-true, lt-ltb, le-leb, ne-eqb, leb-false}
 use Rattle.tables.specs.Marks.{marked}
 use Rattle.carriage.specs.Carriage.{types}
-use Rattle.state.specs.Accumulation.{isOpen, noAccumulation, gap, fewest, most, joins, joined, started, passed}
+use Rattle.state.specs.Accumulation.{isOpen, noAccumulation, gap, fewest, most, joins, joined, passed}
 use Rattle.state.specs.declared.accumulation.Accumulation.{Accumulation}
 use Rattle.state.proofs.Facts.{two}
-use Rattle.stream.specs.Lists.{flat, Linked, final, Across, Cut}
 use Rattle.stream.specs.Running.{ClosedAccumulation}
 use Rattle.stream.specs.Sending.{realTime, next, Kept, reals}
-use Rattle.stream.specs.Cutting.{at, typeOf, round, lostBetween, Joined, Torn, Accumulations}
+use Rattle.stream.specs.Cutting.{at, typeOf, lostBetween, Joined, Torn}
 use Rattle.stream.specs.Filling.{firstCount}
 use Rattle.stream.proofs.Calls.{cellsWith, noCells, closing, accumulate}
 use Rattle.stream.proofs.Chains.{Next, Chain}

@@ -1,6 +1,6 @@
 -- The trace of a run: the one that the promises of step and finish allow; every state in it keeps the list.
 -- Assumes nothing.
-use mathlib.Core.Path.{_≡_, refl, sym, ap, subst⁻¹, _∙_}
+use mathlib.Core.Path.{_≡_, refl, sym, ap, _∙_}
 use mathlib.Core.Bool.{Bool, true, false, cond, _&&_}
 use mathlib.Core.List.{List, [], _∷_}
 use Prim.Native.Nat.{ℕ}
@@ -17,7 +17,7 @@ use Rattle.state.specs.declared.deciding.Stepped.{Stepped}
 use Rattle.state.specs.declared.ending.Finished.{Finished}
 use Rattle.state.proofs.Told.{accepted-is, refused-is}
 use Rattle.state.proofs.Keeping.{step-sound, end-sound}
-use Rattle.reader.specs.Steps.{Buffers, buffers, sized, input, stepped, ended, StepIs}
+use Rattle.reader.specs.Steps.{Buffers, buffers, sized, input, stepped, StepIs}
 use Rattle.stream.specs.Lists.{Every}
 use Rattle.stream.specs.Running.{Call, End, Trace, step, finish, called, run, Allowed, states}
 

@@ -3,8 +3,8 @@
 -- Assumes nothing.
 use mathlib.Core.Path.{_≡_, refl, sym, subst, _∙_}
 use mathlib.Core.Bool.{Bool, true, false, cond, false≢true}
-use mathlib.Core.List.{List, [], _∷_, _++_}
-use Prim.Native.Nat.{ℕ, _+_, _*_, _/_, _%_, _^_, _<_, _≤_}
+use mathlib.Core.List.{List, [], _∷_}
+use Prim.Native.Nat.{ℕ, _+_, _*_, _^_, _<_, _≤_}
 use native.Mathlib.Nat.{zero-add}
 use native.Mathlib.Omega.{arith}
 use lib.Count.{ones, onesIn}
@@ -14,7 +14,7 @@ use lib.ListN.{length, getD, set, length-set, getD-replicate, length-replicate}
 use lib.Pow.{pow-mono, pow-pos}
 use lib.Seq.{getD-set-same, getD-set-other}
 use borrow.Author.Tests.{ltb-true, ltb-false}
-use Rattle.tables.specs.Marks.{bitSet, marked}
+use Rattle.tables.specs.Marks.{marked}
 use Rattle.tables.proofs.Marks.{bits-above}
 use Rattle.tables.proofs.Built.{length-build, getD-build}
 use Rattle.buffers.specs.Laying.{patch}
@@ -22,18 +22,18 @@ use Rattle.buffers.proofs.Patches.{length-patch, patch-left, patch-in, patch-ri
 use Rattle.record.specs.Layout.{magBytes}
 use Rattle.record.specs.Contents.{recordOf}
 use Rattle.mag.specs.Samples.{samplesSize, range, sample, samples}
-use Rattle.state.specs.Major.{slotOf, noMajor, into}
+use Rattle.state.specs.Major.{noMajor, into}
 use Rattle.state.specs.declared.major.Major.{Major}
 use Rattle.reader.specs.Buffers.{frameSamples}
 use Rattle.stream.specs.Lists.{Every, Linked}
 use Rattle.stream.specs.Running.{ClosedMajor}
 use Rattle.stream.specs.Sending.{realTime, Kept, reals}
 use Rattle.stream.specs.Cutting.{at, major, Beside}
-use Rattle.stream.specs.Filling.{packet, slot, Sampled, Slotted, NoSlot, NoMag, MajorFilled}
+use Rattle.stream.specs.Filling.{packet, slot, Sampled, Slotted, MajorFilled}
 use Rattle.stream.proofs.Calls.{samplesWith, noSamples, majorWith}
 use Rattle.stream.proofs.Grouping.{all-share}
 use Rattle.stream.proofs.Marking.{marksFrom, Rising, Free, free-below, fits-more, marks-stay, marks-first, marks-count}
-use Rattle.stream.proofs.Reals.{reals-more, reals-same, every-reals, rising-reals}
+use Rattle.stream.proofs.Reals.{reals-more, every-reals, rising-reals}
 use Rattle.stream.proofs.Frames.{majorFrom, samplesFrom, majorOf}
 
 -- the marks of the slots, and of the MAG slots
@@ -202,7 +202,16 @@ unfolding majorOf Rising Every ones onesIn
 major-filled f fs l =
     let g = f ∷ fs in
     let r : Rising slot 0 g = (omega arith, rises fs f l) in
-    let b : Before (major f) 0 noMajor noSamples g = record { rising = r; numbered = all-share major Beside (λ p x h. h .0) fs f l; slots = pow-pos 0; mags = pow-pos 0; words = refl; ranges = refl; samples = length-replicate {A = ℤ} frameSamples (pos 0) } in
+    let b : Before (major f) 0 noMajor noSamples g =
+    record {
+      rising = r;
+      numbered = all-share major Beside (λ p x h. h .0) fs f l;
+      slots = pow-pos 0;
+      mags = pow-pos 0;
+      words = refl;
+      ranges = refl;
+      samples = length-replicate {A = ℤ} frameSamples (pos 0);
+    } in
     record {
       slots = rw (slots-are g noMajor) (marks-count slot g 0 0 (pow-pos 0) r ∙ zero-add (length g));
       mags = rw (mags-are g noMajor) (marks-count slot (reals g) 0 0 (pow-pos 0) (rising-reals slot g 0 r) ∙ zero-add (length (reals g)));

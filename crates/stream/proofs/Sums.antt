@@ -4,16 +4,20 @@ use mathlib.Core.Path.{_≡_, refl, sym, ap, _∙_}
 use mathlib.Core.Bool.{Bool, true, false, cond}
 use mathlib.Core.List.{List, [], _∷_, _++_}
 use Prim.Native.Nat.{ℕ, _+_, _*_}
-use native.Mathlib.Nat.{zero-add}
 use native.Mathlib.Omega.{arith}
 use lib.ListN.{length, length-append}
+use Rattle.carriage.specs.Carriage.{scienceSize}
+use Rattle.mag.specs.Samples.{samplesSize}
+use Rattle.listing.specs.Lines.{cellsHeld, slotsHeld, samplesHeld}
 use Rattle.stream.specs.Lists.{Pairwise, flat, sum}
+use Rattle.stream.specs.Running.{ClosedAccumulation, ClosedMajor}
 use Rattle.stream.specs.Sending.{realTime, Kept, reals}
+use Rattle.stream.specs.Filling.{Filled, MajorFilled}
 
 -- w counts the records of a list
 module _ {O : Type 0} (P : List Kept → O → Type 0) (f : O → ℕ) (w : List Kept → ℕ)
     (none : w [] ≡ 0) (more : (g h : List Kept) → w (g ++ h) ≡ w g + w h) (is : (g : List Kept) (o : O) → P g o → f o ≡ w g) where
-  pub sum-is : (gs : List (List Kept)) (os : List O) → Pairwise P gs os → sum f os ≡ w (flat gs)
+  sum-is : (gs : List (List Kept)) (os : List O) → Pairwise P gs os → sum f os ≡ w (flat gs)
   unfolding Pairwise flat sum
   sum-is [] [] h = sym none
   sum-is [] (o ∷ os) h = absurd h
@@ -29,9 +33,25 @@ reals-append (x ∷ g) h = go (realTime (x .bytes)) (reals-append g h)
     go true e = ap (λ (z : List Kept). x ∷ z) e
     go false e = e
 
-pub reals-none : length (reals []) ≡ 0
+reals-none : length (reals []) ≡ 0
 unfolding reals
 reals-none = refl
 
-pub reals-length : (g h : List Kept) → length (reals (g ++ h)) ≡ length (reals g) + length (reals h)
+reals-length : (g h : List Kept) → length (reals (g ++ h)) ≡ length (reals g) + length (reals h)
 reals-length g h = ap length (reals-append g h) ∙ length-append (reals g) (reals h)
+
+-- the listing's three numbers
+module _ (gs : List (List Kept)) where
+  pub cells-total : (os : List ClosedAccumulation) → Pairwise Filled gs os → sum (λ a. cellsHeld (a .report)) os ≡ scienceSize * length (flat gs)
+  cells-total =
+      sum-is Filled (λ a. cellsHeld (a .report)) (λ g. scienceSize * length g)
+      refl (λ g h. omega (arith, length-append g h)) (λ g a f. ap (λ (n : ℕ). scienceSize * n) (f .frames)) gs
+
+  module _ (os : List ClosedMajor) (h : Pairwise MajorFilled gs os) where
+    pub samples-total : sum (λ m. samplesHeld (m .frame)) os ≡ samplesSize * length (reals (flat gs))
+    samples-total =
+        sum-is MajorFilled (λ m. samplesHeld (m .frame)) (λ g. samplesSize * length (reals g))
+        (ap (λ (n : ℕ). samplesSize * n) reals-none) (λ g h. omega (arith, reals-length g h)) (λ g m f. ap (λ (n : ℕ). samplesSize * n) (f .mags)) gs os h
+
+    pub slots-total : sum (λ m. slotsHeld (m .frame)) os ≡ length (flat gs)
+    slots-total = sum-is MajorFilled (λ m. slotsHeld (m .frame)) length refl length-append (λ g m f. f .slots) gs os h

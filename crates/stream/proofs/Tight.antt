@@ -1,21 +1,19 @@
 -- Demand 3's 36 is the best bound: a stream that is torn by 36 lost counts, and none by fewer.
 -- Assumes nothing.
 use mathlib.Core.Path.{_≡_, refl, sym, ap, subst, subst⁻¹, _∙_}
-use mathlib.Core.Bool.{Bool, true, false, true≢false}
+use mathlib.Core.Bool.{true, false, true≢false}
 use mathlib.Core.List.{List, [], _∷_, _++_}
 use mathlib.Core.Logic.{_⊎_, inl, inr, ⊎-elim}
-use Prim.Native.Nat.{ℕ, zero, suc, _+_, _-_, _%_, _<_, _≤_}
+use Prim.Native.Nat.{ℕ, zero, suc, _+_, _-_, _<_, _≤_}
 use native.Mathlib.Omega.{arith}
 use lib.ListN.{length}
 use Rattle.tables.specs.Marks.{bitSet}
 use Rattle.carriage.specs.Carriage.{types}
-use Rattle.state.specs.Accumulation.{most}
 use Rattle.state.specs.List.{fresh}
-use Rattle.state.specs.declared.State.{State}
-use Rattle.stream.specs.Lists.{Every, Some, Pairwise, Neighbours, flat, Linked, Across, Cut, final}
-use Rattle.stream.specs.Running.{Sized, Trace, step, run, ClosedAccumulation, accumulations}
-use Rattle.stream.specs.Sending.{realTime, next, Fate, kept, removed, extra, Sends, fed, Refused, Kept, keptOf, reals}
-use Rattle.stream.specs.Cutting.{typeOf, round, lostBetween, Joined, Torn}
+use Rattle.stream.specs.Lists.{Every, Some, Pairwise, Neighbours, flat, Linked, Cut}
+use Rattle.stream.specs.Running.{Trace, run, ClosedAccumulation, accumulations}
+use Rattle.stream.specs.Sending.{next, Fate, kept, removed, Sends, fed, Refused, Kept, keptOf, reals}
+use Rattle.stream.specs.Cutting.{typeOf, lostBetween, Joined, Torn}
 use Rattle.stream.specs.Filling.{Filled}
 use Rattle.stream.specs.Once.{Own}
 use Rattle.stream.specs.Tight.{TornBy, Tight}
@@ -152,7 +150,8 @@ tight = record {
     lost = unfold before after in refl;
     apart =
         let d = demand-3 stream lent 100 5 sized sent (run fresh lent (fed stream)) (run-allowed (fed stream) fresh lent) none-spoiled in
-        apart (reals (keptOf 5 0 stream)) _ (subst (λ (gs : List (List Kept)). Pairwise Filled gs (accumulations (run fresh lent (fed stream)))) (by-themselves Joined Torn (d .rounds) before after far (d .rounds-whole ∙ are-kept) (d .rounds-cut)) (d .rounds-out));
+        let e = by-themselves Joined Torn (d .rounds) before after far (d .rounds-whole ∙ are-kept) (d .rounds-cut) in
+        apart (reals (keptOf 5 0 stream)) _ (subst (λ (gs : List (List Kept)). Pairwise Filled gs (accumulations (run fresh lent (fed stream)))) e (d .rounds-out));
   };
   none-below = none-below;
 }
