@@ -1,7 +1,7 @@
 -- What stands where in a list that another was laid over, for any element type.
 -- Assumes nothing.
 use mathlib.Core.Path.{_≡_, refl, sym, ap, _∙_}
-use mathlib.Core.Bool.{Bool, true, false, cond}
+use mathlib.Core.Bool.{Bool, true, false, not, cond}
 use mathlib.Core.List.{List, _++_, append-assoc}
 use Prim.Native.Nat.{ℕ, _+_, _-_, _<_, _≤_}
 use native.Mathlib.Nat.{add-assoc}
@@ -9,11 +9,18 @@ use native.Mathlib.Omega.{arith}
 use lib.Dec.{leb}
 use lib.ListN.{length, getD, take, drop, length-append, length-drop, take-append-drop, List·getD-append}
 use lib.Seq.{length-take-le, take-add, take-take, drop-append-le, drop-drop, getD-append-add, getD-take, getD-drop}
-use borrow.Author.Tests.{le-leb, lt-leb, leb-true, eq-eqb}
+use borrow.Author.Tests.{le-leb, lt-leb, leb-true, leb-false, eq-eqb, not-true, not-false}
 use Rattle.buffers.specs.Copying.{copied}
-use Rattle.buffers.specs.Laying.{patch, laid}
+use Rattle.buffers.specs.Laying.{patch, hasRoom, laid}
 
 module _ {ℓ} {A : Type ℓ} where
+  -- what the test for room tells
+  pub has-room : (d : List A) (at n : ℕ) (b : Bool) → b ≡ hasRoom (length d) at n → not b ≡ false → at + n ≤ length d
+  has-room d at n b e h = leb-true (at + n) (length d) (sym e ∙ not-false b h)
+
+  pub no-room : (d : List A) (at n : ℕ) (b : Bool) → b ≡ hasRoom (length d) at n → not b ≡ true → length d < at + n
+  no-room d at n b e h = leb-false (at + n) (length d) (sym e ∙ not-true b h)
+
   -- inside, and not
   pub laid-in : (s d : List A) (at : ℕ) → at + length s ≤ length d → laid s d at ≡ patch d at s
   laid-in s d at h = rw (le-leb (at + length s) (length d) h)

@@ -1,11 +1,11 @@
-// Buffers: one copied into another of its size, one laid into another from a place on, one cleared.
+// Buffers: one copied into another of its size, one laid into another from a place on where it has room, one cleared.
 mod numbers;
 
 ghost use mathlib.Core.Path.{_≡_};
 ghost use Prim.Native.Nat.{_+_, _≤_};
 ghost use lib.ListN.{length, take, drop};
 ghost use Rattle.buffers.specs.Copying.{copied};
-ghost use Rattle.buffers.specs.Laying.{patch, laid};
+ghost use Rattle.buffers.specs.Laying.{patch, hasRoom, laid};
 ghost use Rattle.buffers.specs.Clearing.{cleared};
 pub use numbers::clear_numbers;
 pub use numbers::copy_numbers;
@@ -56,14 +56,24 @@ pub fn copy(from: &[u8], to: &mut [u8])
     }
 }
 
+// Do n places from `at` on lie among so many?
+pub fn has_room(size: usize, at: usize, n: usize) -> bool
+    ensures { λ b. ⌜ b ≡ hasRoom size at n ⌝ }
+{
+    if size < at {
+        return false;
+    }
+    if size - at < n {
+        return false;
+    }
+    true
+}
+
 // The bytes of `to` from place `at` on become `from` where it lies wholly inside; else `to` stays as found.
 pub fn lay(from: &[u8], to: &mut [u8], at: usize)
     ensures { λ _. ⌜ now (to .exit) ≡ laid (now (from .entry)) (now (to .entry)) at ⌝ }
 {
-    if to.len() < at {
-        return;
-    }
-    if to.len() - at < from.len() {
+    if !has_room(to.len(), at, from.len()) {
         return;
     }
     copy(from, &mut to[at..at + from.len()]);

@@ -12,7 +12,8 @@ use lib.ListN.{length, getD}
 use borrow.Author.Tests.{eq-eqb, ne-eqb}
 use Rattle.mag.specs.Field.{FieldIs}
 use Rattle.encoding.specs.States.{majorSize, majorOf}
-use Rattle.majors.specs.Questions.{slots, stored, hasStored, hasNominal, magHeld, slotHeld, nominalGiven, fieldAt, SampleIs, WordIs, NominalIs}
+use Rattle.majors.specs.Questions.{stored, hasStored, hasNominal, magHeld, slotHeld, nominalGiven, fieldAt, SampleIs, WordIs, NominalIs}
+use Rattle.state.specs.Major.{slots}
 use Rattle.majors.specs.declared.Nominal.{Nominal}
 use Rattle.majors.specs.declared.Nominal.the-variants as nominal
 use Rattle.majors.specs.declared.Sample.{Sample}

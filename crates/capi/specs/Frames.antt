@@ -11,7 +11,8 @@ use lib.ListN.{length, getD}
 use Rattle.cells.specs.Words.{said}
 use Rattle.mag.specs.Field.{FieldIs}
 use Rattle.encoding.specs.States.{majorSize, majorOf}
-use Rattle.majors.specs.Questions.{slots, stored, hasStored, hasNominal, magHeld, slotHeld, fieldAt}
+use Rattle.majors.specs.Questions.{stored, hasStored, hasNominal, magHeld, slotHeld, fieldAt}
+use Rattle.state.specs.Major.{slots}
 use Rattle.capi.specs.Electrons.{wordsNumber}
 
 -- bytes of a major frame, and what is asked for has a place

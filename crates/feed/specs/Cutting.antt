@@ -7,7 +7,7 @@ use mathlib.Core.List.{List}
 use mathlib.Core.Path.{_≡_}
 use lib.Dec.{leb}
 use lib.ListN.{length, take, drop}
-use Rattle.buffers.specs.Laying.{patch}
+use Rattle.buffers.specs.Laying.{patch, hasRoom}
 use Rattle.record.specs.Layout.{size}
 
 -- the record that begins at place `at`: 472 bytes, or what is left
@@ -16,7 +16,7 @@ recordAt bytes at = take size (drop at bytes)
 
 -- a whole record begins there
 unfoldable pub isWhole : ℕ → ℕ → Bool
-isWhole n at = leb (at + size) n
+isWhole n at = hasRoom n at size
 
 -- the part handed back: its bytes, and that they are the caller's own. A slice lies in a block of memory, the place's `.0`, from
 -- an offset on, its `.1`

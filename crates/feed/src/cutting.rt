@@ -2,6 +2,7 @@
 ghost use Prim.Native.Nat.{_+_, _<_};
 ghost use mathlib.Core.Path.{_≡_};
 ghost use Rattle.feed.specs.Cutting.{CutIs, RestIs, isWhole};
+use buffers::has_room;
 use record::Record;
 
 // The record that begins at place `at`: the caller's own bytes, 472 of them or what is left.
@@ -21,13 +22,7 @@ pub fn cut<'a>(bytes: &'a [u8], at: usize) -> &'a [u8]
 pub fn is_whole(size: usize, at: usize) -> bool
     ensures { λ b. ⌜ b ≡ isWhole size at ⌝ }
 {
-    if size < at {
-        return false;
-    }
-    if size - at < Record::SIZE {
-        return false;
-    }
-    true
+    has_room(size, at, Record::SIZE)
 }
 
 // The bytes from place `from` to before place `to` come to the front; answers how many they are. The others stay, and all stay

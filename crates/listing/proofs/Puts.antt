@@ -9,7 +9,7 @@ use native.Mathlib.Omega.{arith}
 use lib.Dec.{leb}
 use lib.ListN.{length, set, take, drop, length-append, take-append-drop}
 use lib.Seq.{length-take-le, take-at, drop-at, drop-drop, set-split}
-use borrow.Author.Tests.{le-leb, lt-leb, leb-true, leb-false, not-true, not-false}
+use borrow.Author.Tests.{le-leb, lt-leb}
 use Rattle.buffers.specs.Laying.{patch, laid}
 use Rattle.buffers.proofs.Patches.{laid-in, length-patch}
 use Rattle.listing.specs.Text.{Put, Written}
@@ -74,10 +74,3 @@ module _ {d : List ℕ} {at : ℕ} {s e : List ℕ} {p : ℕ} (one : Put d at s 
 -- no room
 pub not-written : (room : ℕ) (s d : List ℕ) (at : ℕ) → length d < at + room → Written room s d at d at
 not-written room s d at h = record { content = rw (lt-leb (at + room) (length d) h) refl; place = rw (lt-leb (at + room) (length d) h) refl }
-
--- what the test for room tells
-pub no-room : (d : List ℕ) (at room : ℕ) (b : Bool) → b ≡ leb (at + room) (length d) → not b ≡ true → length d < at + room
-no-room d at room b e h = leb-false (at + room) (length d) (sym e ∙ not-true b h)
-
-pub has-room : (d : List ℕ) (at room : ℕ) (b : Bool) → b ≡ leb (at + room) (length d) → not b ≡ false → at + room ≤ length d
-has-room d at room b e h = leb-true (at + room) (length d) (sym e ∙ not-false b h)

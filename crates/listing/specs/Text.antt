@@ -6,9 +6,8 @@ use Prim.Native.String.{String, len, charAt, slice}
 use mathlib.Core.Bool.{cond}
 use mathlib.Core.List.{List, [], _∷_}
 use mathlib.Core.Path.{_≡_}
-use lib.Dec.{leb}
 use lib.ListN.{length}
-use Rattle.buffers.specs.Laying.{patch}
+use Rattle.buffers.specs.Laying.{patch, hasRoom}
 
 -- the codes of the first n characters
 abbrev pub codes : ℕ → String → List ℕ
@@ -29,5 +28,5 @@ pub record Put (d : List ℕ) (at : ℕ) (text : List ℕ) (d′ : List ℕ) (en
 
 -- the same where so many bytes are free from `at` on; else the buffer is as it was and the place is where it began
 pub record Written (room : ℕ) (text d : List ℕ) (at : ℕ) (d′ : List ℕ) (end : ℕ) : Type 0 where
-  pub content : d′ ≡ cond (leb (at + room) (length d)) (patch d at text) d
-  pub place : end ≡ cond (leb (at + room) (length d)) (at + length text) at
+  pub content : d′ ≡ cond (hasRoom (length d) at room) (patch d at text) d
+  pub place : end ≡ cond (hasRoom (length d) at room) (at + length text) at

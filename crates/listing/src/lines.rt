@@ -8,8 +8,8 @@ use crate::CLOSED;
 use crate::HEADER;
 use crate::REFUSED;
 use crate::decimal::put_number;
-use crate::text::has_room;
 use crate::text::put;
+use buffers::has_room;
 use state::AccumulationReport;
 use state::MajorReport;
 

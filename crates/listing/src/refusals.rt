@@ -5,8 +5,8 @@ ghost use Rattle.listing.specs.Text.{Put, Written};
 ghost use Rattle.listing.specs.Refusals.{wordsSize, wordsOf, placeSize, place, refusalSize, refusalLine};
 use crate::REFUSAL;
 use crate::decimal::put_number;
-use crate::text::has_room;
 use crate::text::put;
+use buffers::has_room;
 
 // 01's words, those of each number after those of the one before, from 1 on; and where they end, from no number on.
 const WORDS: [u8; 400] = *b"\

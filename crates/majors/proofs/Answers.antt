@@ -18,7 +18,8 @@ use Rattle.mag.specs.Field.{fieldOf, hasField, fieldGiven, FieldIs, Answered}
 use Rattle.mag.specs.declared.nominal.Field.{Field}
 use Rattle.mag.specs.declared.nominal.Field.the-variants as field
 use Rattle.state.specs.declared.major.Major.{Major}
-use Rattle.majors.specs.Questions.{slots, frameSamples, stored, isPlace, hasStored, hasNominal, magHeld, slotHeld, sampleSaid, wordSaid, nominalSaid, sampleGiven, wordGiven, nominalGiven, fieldAt, SampleIs, WordIs, NominalIs}
+use Rattle.state.specs.Major.{slots, frameSamples}
+use Rattle.majors.specs.Questions.{stored, isPlace, hasStored, hasNominal, magHeld, slotHeld, sampleSaid, wordSaid, nominalSaid, sampleGiven, wordGiven, nominalGiven, fieldAt, SampleIs, WordIs, NominalIs}
 use Rattle.majors.specs.declared.Nominal.{Nominal}
 use Rattle.majors.specs.declared.Nominal.the-variants as nominal
 use Rattle.majors.specs.declared.Sample.{Sample}

@@ -10,7 +10,8 @@ use Rattle.buffers.specs.Copying.{copied}
 use Rattle.record.specs.Layout.{size}
 use Rattle.cells.specs.Laying.{cellsSize}
 use Rattle.state.proofs.Facts.{two}
-use Rattle.reader.specs.Buffers.{frameSamples, copiedBy, clearedBy}
+use Rattle.state.specs.Major.{frameSamples}
+use Rattle.reader.specs.Buffers.{copiedBy, clearedBy}
 use Rattle.reader.specs.Steps.{sizedBy}
 
 -- a copy between two of one size

@@ -13,7 +13,7 @@ use Rattle.record.specs.Layout.{size, packetBytes, frameCode}
 use Rattle.carriage.specs.Carriage.{types}
 use Rattle.cells.specs.Laying.{cellsSize, frameType}
 use Rattle.state.specs.List.{listed}
-use Rattle.state.specs.Major.{slotOf}
+use Rattle.state.specs.Major.{frameSamples, slotOf}
 use Rattle.state.specs.Deciding.{Input, dated, numberOf, refusal, decidedOf, DecidedIs}
 use Rattle.state.specs.Ending.{unended, ending, endedOf, endNumber, EndedIs}
 use Rattle.state.specs.declared.State.{State}
@@ -21,7 +21,7 @@ use Rattle.state.specs.declared.deciding.Decided.{Decided}
 use Rattle.state.specs.declared.ending.Ended.{Ended}
 use Rattle.state.proofs.Facts.{two}
 use Rattle.state.proofs.Told.{all-pass, passed-size, at-work, refused-is, accepted-clock, real-type, cells-real}
-use Rattle.reader.specs.Buffers.{frameSamples, copiedBy, clearedBy, frameLaidBy, slotLaidBy}
+use Rattle.reader.specs.Buffers.{copiedBy, clearedBy, frameLaidBy, slotLaidBy}
 use Rattle.reader.specs.Steps.{sizedBy, buffers, sized, input, StepIs, FinishIs}
 use Rattle.reader.proofs.Lengths.{Sizes, sizes, length-cleared}
 

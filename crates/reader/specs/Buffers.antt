@@ -10,10 +10,6 @@ use Rattle.record.specs.Layout.{frameCode, magBytes, scienceBytes}
 use Rattle.mag.specs.Samples.{samplesSize, samples}
 use Rattle.cells.specs.Laying.{laidFrame}
 
--- 16 slots of 54: "864 signed 16-bit numbers"
-abbrev pub frameSamples : ℕ
-frameSamples = 864
-
 -- "Closing copies the open buffer to the finished buffer"
 abbrev pub copiedBy {ℓ} : {A : Type ℓ} → Bool → List A → List A → List A
 copiedBy copies from finished = cond copies from finished

@@ -9,14 +9,14 @@ use lib.IntN.{ℤ, pos}
 use lib.ListN.{length}
 use Rattle.record.specs.Layout.{packetBytes}
 use Rattle.cells.specs.Laying.{cellsSize}
-use Rattle.state.specs.Major.{slotOf}
+use Rattle.state.specs.Major.{frameSamples, slotOf}
 use Rattle.state.specs.Deciding.{Input, dated, numberOf, decidedOf, answerNumber}
 use Rattle.state.specs.Ending.{endedOf, endNumber, endingNumber}
 use Rattle.state.specs.declared.State.{State}
 use Rattle.state.specs.declared.deciding.Stepped.{Stepped}
 use Rattle.state.specs.declared.ending.Finished.{Finished}
 use Rattle.state.specs.declared.work.Work.{Work}
-use Rattle.reader.specs.Buffers.{frameSamples, copiedBy, clearedBy, frameLaidBy, slotLaidBy}
+use Rattle.reader.specs.Buffers.{copiedBy, clearedBy, frameLaidBy, slotLaidBy}
 
 -- "open and finished cells (2,997 bytes each), open and finished samples (864 signed 16-bit numbers each)"
 unfoldable pub sizedBy : ℕ → ℕ → ℕ → ℕ → Bool

@@ -13,7 +13,7 @@ use Rattle.tables.specs.Marks.{highest, marked}
 use Rattle.tables.proofs.Marks.{highest-marked, marked-own, marked-other, marked-below, bits-above, below}
 use Rattle.tables.proofs.Upto.{upto-all}
 use Rattle.state.specs.Clock.{accepted}
-use Rattle.state.specs.Major.{numberOf, slotOf, noMajor, into, Free}
+use Rattle.state.specs.Major.{majorNumber, slotOf, noMajor, into, Free}
 use Rattle.state.specs.List.{magAmong, rangeFits, rangeKept, wordKept, slotTest, slotHolds, slotsHold, majorNow, noSlot}
 use Rattle.state.specs.Keeping.{Shaped}
 use Rattle.state.specs.declared.clock.Clock.{Clock}
@@ -98,7 +98,7 @@ module _ (m : Major) (d : ℕ) (t : Room m (slotOf d)) (g w : ℕ) (hg : g ≤ 7
   unfolding into marked
   slots-some real e = omega (arith, pow-pos (slotOf d))
 
-  here : (real : Bool) → (eqb (into m d real g w .number) (numberOf d) && highest (into m d real g w .slots) (slotOf d)) ≡ true
+  here : (real : Bool) → (eqb (into m d real g w .number) (majorNumber d) && highest (into m d real g w .slots) (slotOf d)) ≡ true
   unfolding into
   here real = rw (eq-eqb (d / 16) (d / 16) refl) (highest-marked (m .slots) (slotOf d) (t .slots))
 

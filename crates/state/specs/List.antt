@@ -9,7 +9,7 @@ use Rattle.tables.specs.Marks.{bitSet, highest}
 use Rattle.tables.specs.Upto.{upto}
 use Rattle.state.specs.Clock.{counts, unset}
 use Rattle.state.specs.Accumulation.{noAccumulation}
-use Rattle.state.specs.Major.{numberOf, slotOf, noMajor}
+use Rattle.state.specs.Major.{majorNumber, slotOf, noMajor}
 use Rattle.state.specs.declared.State.{State}
 use Rattle.state.specs.declared.accumulation.Accumulation.{Accumulation}
 use Rattle.state.specs.declared.clock.Clock.{Clock}
@@ -62,7 +62,7 @@ slotsHold m = upto (slotHolds m) 16
 
 -- "if any slot is held, the open major number and the highest slot held are those of the last accepted count"
 unfoldable pub majorNow : Clock → Major → Bool
-majorNow c m = eqb (m .slots) 0 || (eqb (m .number) (numberOf (c .last)) && highest (m .slots) (slotOf (c .last)))
+majorNow c m = eqb (m .slots) 0 || (eqb (m .number) (majorNumber (c .last)) && highest (m .slots) (slotOf (c .last)))
 
 -- "With no accumulation open, its numbers are 0"
 unfoldable pub noneOpen : Accumulation → Bool

@@ -14,7 +14,7 @@ use Rattle.record.specs.Contents.{recordOf}
 use Rattle.mag.specs.Samples.{samplesSize, range, samples}
 use Rattle.cells.specs.Laying.{cellsSize, laidFrame}
 use Rattle.state.specs.Accumulation.{isOpen, joins, joined, started, passed, unreported, reported, stepAccumulation}
-use Rattle.state.specs.Major.{slotOf, majorOpen, noMajor, continues, into, majorUnreported, majorReported, stays, turns, stepMajor}
+use Rattle.state.specs.Major.{frameSamples, slotOf, majorOpen, noMajor, continues, into, majorUnreported, majorReported, stays, turns, stepMajor}
 use Rattle.state.specs.Deciding.{numberOf, refusal, acceptedAt, acceptance, decidedOf, answerNumber}
 use Rattle.state.specs.declared.State.{State}
 use Rattle.state.specs.declared.accumulation.Accumulation.{Accumulation}
@@ -27,7 +27,7 @@ use Rattle.state.specs.declared.major.Major.{Major}
 use Rattle.state.specs.declared.major.MajorReport.{MajorReport}
 use Rattle.state.specs.declared.major.MajorStep.{MajorStep}
 use Rattle.state.proofs.Told.{accepted-is, refused-is}
-use Rattle.reader.specs.Buffers.{frameSamples, copiedBy}
+use Rattle.reader.specs.Buffers.{copiedBy}
 use Rattle.reader.specs.Steps.{Buffers, input, cellsAfter, samplesAfter}
 use Rattle.stream.specs.Running.{Call, Trace, step, ClosedAccumulation, ClosedMajor, called, accumulationOut, majorOut, accumulations, majors}
 use Rattle.stream.specs.Sending.{realTime, Kept}

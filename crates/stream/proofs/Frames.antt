@@ -9,7 +9,7 @@ use lib.IntN.{ℤ}
 use lib.Pow.{pow-pos}
 use borrow.Author.Tests.{eqb-true, eqb-false, ne-eqb}
 use Rattle.tables.specs.Marks.{marked}
-use Rattle.state.specs.Major.{numberOf, majorOpen, noMajor, continues, into}
+use Rattle.state.specs.Major.{majorNumber, majorOpen, noMajor, continues, into}
 use Rattle.state.specs.declared.major.Major.{Major}
 use Rattle.state.proofs.Facts.{two}
 use Rattle.stream.specs.Running.{ClosedMajor}
@@ -60,11 +60,11 @@ module _ (p : Kept) (m : Major) (h : Holds p m) where
   module _ (x : Kept) (l : at p < at x) where
     beside : continues m (at x) ≡ true → Beside p x
     unfolding continues
-    beside e = (sym (eqb-true (m .number) (numberOf (at x)) (two (majorOpen m) _ e .1)) ∙ h .number, l)
+    beside e = (sym (eqb-true (m .number) (majorNumber (at x)) (two (majorOpen m) _ e .1)) ∙ h .number, l)
 
     behind : continues m (at x) ≡ false → Behind p x
     unfolding continues
-    behind e = let n : m .number ≡ numberOf (at x) → ⊥ = eqb-false (m .number) (numberOf (at x)) (rw (h .is-open) at e) in omega (arith, h .number)
+    behind e = let n : m .number ≡ majorNumber (at x) → ⊥ = eqb-false (m .number) (majorNumber (at x)) (rw (h .is-open) at e) in omega (arith, h .number)
 
 module _ (m : Major) (s : List ℤ) (x : Kept) (xs : List Kept) where
   collect-on : continues m (at x) ≡ true → collect m s (x ∷ xs) ≡ collect (majorWith x m) (samplesWith x s) xs

@@ -18,7 +18,7 @@ use Rattle.record.specs.Frame.{kindOf, kindOfType}
 use Rattle.record.specs.Rules.{rules, broken, sizeHolds, syncHolds, spacecraftHolds, rateHolds, spareHolds, dayHolds, millisecondHolds, statusSpareHolds, flagsHold, typeHolds}
 use Rattle.record.specs.Contents.{recordOf}
 use Rattle.state.specs.Deciding.{isRealTime}
-use Rattle.reader.specs.Buffers.{frameSamples}
+use Rattle.state.specs.Major.{frameSamples}
 use Rattle.reader.specs.Steps.{Buffers, buffers}
 use Rattle.stream.specs.Running.{Sized}
 use Rattle.stream.specs.Sending.{realTime, SentAt}

@@ -19,7 +19,7 @@ use Rattle.mag.specs.Samples.{samplesSize, sample, samples}
 use Rattle.cells.specs.Laying.{cellsSize}
 use Rattle.cells.proofs.Laws.{length-frame}
 use Rattle.state.specs.Clock.{later, accepted}
-use Rattle.state.specs.Major.{slotOf}
+use Rattle.state.specs.Major.{frameSamples, slotOf}
 use Rattle.state.specs.List.{listed}
 use Rattle.state.specs.Deciding.{Input, stateHolds, clockHolds, guardHolds, numberOf, acceptedAt, decidedOf, answerNumber}
 use Rattle.state.specs.Ending.{endedOf}
@@ -30,7 +30,7 @@ use Rattle.state.specs.declared.deciding.Decided.{Decided}
 use Rattle.state.proofs.Numbers.{number-is}
 use Rattle.state.proofs.Told.{accepted-is}
 use Rattle.state.proofs.Keeping.{step-sound, never-13}
-use Rattle.reader.specs.Buffers.{frameSamples, copiedBy}
+use Rattle.reader.specs.Buffers.{copiedBy}
 use Rattle.reader.specs.Steps.{Buffers, sizedBy, sized, input, cellsAfter, samplesAfter}
 use Rattle.stream.specs.Running.{Sized, Call, step, called, run, accumulations, majors}
 use Rattle.stream.specs.Sending.{next, Fate, kept, removed, extra, Sends, fed, Refused, Accepted, Kept, keptOf}

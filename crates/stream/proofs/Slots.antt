@@ -22,9 +22,8 @@ use Rattle.buffers.proofs.Patches.{length-patch, patch-left, patch-in, patch-ri
 use Rattle.record.specs.Layout.{magBytes}
 use Rattle.record.specs.Contents.{recordOf}
 use Rattle.mag.specs.Samples.{samplesSize, range, sample, samples}
-use Rattle.state.specs.Major.{noMajor, into}
+use Rattle.state.specs.Major.{frameSamples, noMajor, into}
 use Rattle.state.specs.declared.major.Major.{Major}
-use Rattle.reader.specs.Buffers.{frameSamples}
 use Rattle.stream.specs.Lists.{Every, Linked}
 use Rattle.stream.specs.Running.{ClosedMajor}
 use Rattle.stream.specs.Sending.{realTime, Kept, reals}

@@ -6,7 +6,7 @@ use mathlib.Core.Path.{_≡_}
 use Rattle.record.specs.Contents.{recordOf}
 use Rattle.carriage.specs.Carriage.{types}
 use Rattle.state.specs.Accumulation.{most}
-use Rattle.state.specs.Major.{numberOf}
+use Rattle.state.specs.Major.{majorNumber}
 use Rattle.stream.specs.Lists.{Cut}
 use Rattle.stream.specs.Sending.{Kept}
 
@@ -41,7 +41,7 @@ Accumulations gs = Cut Joined Torn gs
 
 -- neighbouring records of one major frame, and of two
 abbrev pub major : Kept → ℕ
-major f = numberOf (at f)
+major f = majorNumber (at f)
 
 abbrev pub Beside : Kept → Kept → Type 0
 Beside p f = (major f ≡ major p) × (at p < at f)

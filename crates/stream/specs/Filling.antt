@@ -13,8 +13,7 @@ use Rattle.record.specs.Contents.{recordOf}
 use Rattle.mag.specs.Samples.{samplesSize, range, sample}
 use Rattle.carriage.specs.Carriage.{types, scienceSize, place}
 use Rattle.cells.specs.Laying.{cellsSize, topPair, pairAt}
-use Rattle.state.specs.Major.{slotOf}
-use Rattle.reader.specs.Buffers.{frameSamples}
+use Rattle.state.specs.Major.{frameSamples, slotOf}
 use Rattle.stream.specs.Lists.{Every}
 use Rattle.stream.specs.Running.{ClosedAccumulation, ClosedMajor}
 use Rattle.stream.specs.Sending.{realTime, Kept, reals}

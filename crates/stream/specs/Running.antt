@@ -15,7 +15,7 @@ use Rattle.state.specs.declared.deciding.Stepped.{Stepped}
 use Rattle.state.specs.declared.ending.Finished.{Finished}
 use Rattle.state.specs.declared.major.Major.{Major}
 use Rattle.state.specs.declared.major.MajorReport.{MajorReport}
-use Rattle.reader.specs.Buffers.{frameSamples}
+use Rattle.state.specs.Major.{frameSamples}
 use Rattle.reader.specs.Steps.{Buffers, sized, input, stepped, ended, StepIs, FinishIs}
 
 -- "buffers of the right sizes"

@@ -4,7 +4,8 @@ use lib.Dec.{ltb}
 use lib.ListN.{getD}
 use denote.Ref.{now}
 use Rattle.encoding.specs.States.{majorOf}
-use Rattle.majors.specs.Questions.{slots, slotHeld}
+use Rattle.majors.specs.Questions.{slotHeld}
+use Rattle.state.specs.Major.{slots}
 use Rattle.capi.proofs.Asked.{word-told, no-frame}
 use borrow.Author.Needs.{needs}
 use Rattle.capi.proofs.frames.lpmag_major_word.Statement.{statement}

@@ -1,7 +1,8 @@
 -- `listing::lines::put_header` meets its contract.
 -- Assumes nothing.
 use denote.Ref.{now}
-use Rattle.listing.proofs.Puts.{is-written, not-written, no-room, has-room}
+use Rattle.buffers.proofs.Patches.{no-room, has-room}
+use Rattle.listing.proofs.Puts.{is-written, not-written}
 use Rattle.listing.specs.Lines.{header}
 use borrow.Author.Needs.{needs}
 use Rattle.listing.proofs.lines.put_header.Statement.{statement}

@@ -3,7 +3,8 @@
 use denote.Ref.{now}
 use Rattle.listing.specs.Lines.{refusedLine}
 use Rattle.listing.proofs.Digits.{length-decimal}
-use Rattle.listing.proofs.Puts.{put-then, is-written, not-written, no-room, has-room}
+use Rattle.buffers.proofs.Patches.{no-room, has-room}
+use Rattle.listing.proofs.Puts.{put-then, is-written, not-written}
 use native.Mathlib.Omega.{arith}
 use borrow.Author.Needs.{needs}
 use Rattle.listing.proofs.lines.put_refused.Statement.{statement}
