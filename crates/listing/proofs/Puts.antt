@@ -1,12 +1,10 @@
 -- Texts put one after another.
 -- Assumes nothing.
 use mathlib.Core.Path.{_≡_, refl, sym, ap, _∙_}
-use mathlib.Core.Bool.{Bool, true, false, not}
 use mathlib.Core.List.{List, [], _∷_, _++_, append-assoc}
 use Prim.Native.Nat.{ℕ, suc, _+_, _<_, _≤_}
 use native.Mathlib.Nat.{add-assoc}
 use native.Mathlib.Omega.{arith}
-use lib.Dec.{leb}
 use lib.ListN.{length, set, take, drop, length-append, take-append-drop}
 use lib.Seq.{length-take-le, take-at, drop-at, drop-drop, set-split}
 use borrow.Author.Tests.{le-leb, lt-leb}

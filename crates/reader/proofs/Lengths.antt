@@ -7,7 +7,6 @@ use Prim.Native.Nat.{ℕ}
 use lib.ListN.{length, length-replicate}
 use borrow.Author.Tests.{eqb-true, eq-eqb}
 use Rattle.buffers.specs.Copying.{copied}
-use Rattle.record.specs.Layout.{size}
 use Rattle.cells.specs.Laying.{cellsSize}
 use Rattle.state.proofs.Facts.{two}
 use Rattle.state.specs.Major.{frameSamples}

@@ -5,13 +5,14 @@ use mathlib.Core.Bool.{true, _&&_}
 use Prim.Native.Nat.{ℕ, _-_}
 use lib.Dec.{ltb, leb}
 use lib.Ieee.{round}
+use Rattle.tables.specs.Every.{Every}
 use Rattle.bits.specs.Numbers.{bitOf, bit, join, number}
 use Rattle.counts.specs.Codes.{lowest, highest, divisor, rangeOf}
 use Rattle.angles.specs.Angles.{lines, angleAt}
 use Rattle.mag.specs.Field.{hasField, fieldOf}
 use Rattle.state.specs.Accumulation.{isOpen, fewest, most, gap, joins}
 use Rattle.state.specs.declared.accumulation.Accumulation.{Accumulation}
-use Rattle.sixteen.specs.Examples.{Holds, table, All}
+use Rattle.sixteen.specs.Examples.{Holds, table}
 
 -- an open accumulation joins by its last frame alone
 after : (t c u d : ℕ) (a : Accumulation) → isOpen a ≡ true → a .«last_type» ≡ t → a .«last_count» ≡ c → a .others ≡ 0
@@ -24,8 +25,8 @@ infixr 4 _then_
 _then_ : {A B : Type 0} → A → B → A × B
 row then rows = (row, rows)
 
-pub sixteen : All table
-unfolding All Holds table rangeOf divisor lowest highest number join bit bitOf hasField fieldOf round angleAt lines
+pub sixteen : Every Holds table
+unfolding Every Holds table rangeOf divisor lowest highest number join bit bitOf hasField fieldOf round angleAt lines
 sixteen =
     (refl, refl)
     then (refl, refl)

@@ -1,4 +1,5 @@
--- 01, "Sixteen examples to be proved": one table, and what a row of it says of the definitions.
+-- 01, "Sixteen examples to be proved": one table, and what a row of it says of the definitions. Proved of every row by `sixteen`
+-- in proofs/Examples.antt.
 -- Assumes nothing.
 use Prim.Native.Nat.{ℕ}
 use mathlib.Core.Bool.{Bool, true, false}
@@ -35,7 +36,7 @@ Holds (frame t c u d g j) =
     (a : Accumulation) → isOpen a ≡ true → a .«last_type» ≡ t → a .«last_count» ≡ c → a .others ≡ 0 → (gap a d ≡ g) × (joins a u d ≡ j)
 Holds (angle a p b) = (hasBin a p ≡ true) × (angleAt a p ≡ b)
 
--- "Bytes 80 07 FF give 0 and -1; 00 0F FF give -2,048 and 2,047": as printed of the most-significant-first order, and beside them
+-- the sixteen, and two more. "Bytes 80 07 FF give 0 and -1; 00 0F FF give -2,048 and 2,047": as printed of the most-significant-first order, and beside them
 -- the same answers in the packet's own order (000, section 2.2)
 unfoldable pub table : List Example
 table =
@@ -58,7 +59,3 @@ table =
     ∷ angle 7 3 42
     ∷ angle 7 4 43
     ∷ []
-
-unfoldable pub All : List Example → Type 0
-All [] = Unit {0}
-All (x ∷ xs) = Holds x × All xs

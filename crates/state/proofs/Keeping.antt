@@ -25,7 +25,7 @@ use Rattle.state.specs.Clock.{counts, unset, later, accepted}
 use Rattle.state.specs.Accumulation.{noAccumulation, joins, unguarded, extends, renews, passes, stepAccumulation}
 use Rattle.state.specs.Major.{slotOf, noMajor, continues, into, stays, turns, stepMajor}
 use Rattle.state.specs.List.{fresh, countsBelow, framesAmong, framesFit, othersFit, slotHolds, slotsHold, majorNow, noneOpen, noSlot, begun, listed}
-use Rattle.state.specs.Deciding.{isRealTime, Input, dated, joining, stateHolds, clockHolds, guardHolds, readerRules, numberOf, acceptedAt, acceptance, decidedOf}
+use Rattle.state.specs.Deciding.{isRealTime, Input, dated, stateHolds, clockHolds, guardHolds, readerRules, numberOf, acceptedAt, acceptance, decidedOf}
 use Rattle.state.specs.Ending.{ending, unended, endedOf}
 use Rattle.state.specs.Keeping.{Shaped, Sound, StepKeeps, EndKeeps, Never13}
 use Rattle.state.specs.declared.State.{State}

@@ -130,15 +130,14 @@ module _ (s : State) (b : Buffers) (x : Kept) (e : numberOf (input s b (x .bytes
   is-taken = call-is s b (x .bytes) taken (accepted-is (input s b (x .bytes)) e)
 
   -- one that opens an accumulation, and one that joins
-  pub opening : realTime (x .bytes) ≡ true → joins (s .accumulation) (typeOf x) (at x) ≡ false → length (b .openCells) ≡ cellsSize
-      → (called s b (x .bytes) .result .state .accumulation ≡ started (typeOf x) (at x)) × (called s b (x .bytes) .left .openCells ≡ cellsWith x noCells)
-  unfolding acceptedAt stepAccumulation cellsWith
-  opening r j n = rw (is-taken, r, j, n) (refl, refl)
+  pub opening : realTime (x .bytes) ≡ true → joins (s .accumulation) (typeOf x) (at x) ≡ false → called s b (x .bytes) .result .state .accumulation ≡ started (typeOf x) (at x)
+  unfolding acceptedAt stepAccumulation
+  opening r j = rw (is-taken, r, j)
 
   pub joining : realTime (x .bytes) ≡ true → joins (s .accumulation) (typeOf x) (at x) ≡ true
-      → (called s b (x .bytes) .result .answer ≡ Accepted (record { fields = recordOf (x .bytes); gap = Joins })) × (called s b (x .bytes) .left .openCells ≡ cellsWith x (b .openCells))
-  unfolding acceptedAt stepAccumulation cellsWith
-  joining r j = rw (is-taken, r, j) (refl, refl)
+      → called s b (x .bytes) .result .answer ≡ Accepted (record { fields = recordOf (x .bytes); gap = Joins })
+  unfolding acceptedAt stepAccumulation
+  joining r j = rw (is-taken, r, j)
 
   module _ (t : Trace) (xs : List Kept) where
     -- the accumulation and the open cells

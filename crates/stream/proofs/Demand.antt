@@ -14,15 +14,16 @@ use Rattle.mag.specs.Samples.{samplesSize}
 use Rattle.state.specs.Clock.{later}
 use Rattle.state.specs.List.{fresh}
 use Rattle.state.proofs.Keeping.{fresh-sound}
-use Rattle.reader.specs.Steps.{Buffers}
-use Rattle.stream.specs.Lists.{Every, Pairwise, flat}
-use Rattle.stream.specs.Running.{Sized, Trace, run, Allowed}
-use Rattle.stream.specs.Sending.{realTime, Fate, Sends, fed, Refused, Kept, keptOf, reals, next}
-use Rattle.stream.specs.Cutting.{at, Joined, Torn, Beside, Behind}
+use Rattle.reader.specs.Steps.{Buffers, sized}
+use Rattle.tables.specs.Every.{Every}
+use Rattle.stream.specs.Lists.{Pairwise, flat}
+use Rattle.stream.specs.Running.{Trace, run, Allowed}
+use Rattle.stream.specs.Sending.{realTime, next, Fate, fed, Stream, Kept, reals, unspoiled}
+use Rattle.stream.specs.Cutting.{at, Joined, Parted, Beside, Behind}
 use Rattle.stream.specs.Filling.{packet, Filled, MajorFilled}
 use Rattle.stream.specs.Demand.{Demand3}
 use Rattle.stream.proofs.Runs.{only-run, run-sound}
-use Rattle.stream.proofs.Parts.{Ready, parts}
+use Rattle.stream.proofs.Parts.{Ready, lengths, parts}
 use Rattle.stream.proofs.Chains.{Next, Chain, chain}
 use Rattle.stream.proofs.Grouping.{each-out}
 use Rattle.stream.proofs.Rounds.{outOf, rounds}
@@ -52,40 +53,37 @@ unfolding Every
 every-unit [] = tt
 every-unit (x ∷ xs) = (tt, every-unit xs)
 
-start : (b : Buffers) (c : ℕ) → Sized b → Ready fresh b c
+start : (b : Buffers) (c : ℕ) → sized b ≡ true → Ready fresh b c
 unfolding later
-start b c z = record { sound = fresh-sound; sized = z; ahead = λ d l. refl }
+start b c z = record { sound = fresh-sound; sized = lengths b z; ahead = λ d l. refl }
 
-module _ (xs : List Fate) (b : Buffers) (c k : ℕ) (z : Sized b) (w : Sends c k xs) where
-  ks : List Kept
-  ks = keptOf k 0 xs
-
-  ran : Refused xs (run fresh b (fed xs)) → Demand3 k xs (run fresh b (fed xs))
-  unfolding ks
-  ran q =
-      let p = parts xs k 0 c fresh b (start b c z) w q in
-      let chained = chain xs c k 0 w in
+module _ (xs : List Fate) (b : Buffers) (c k : ℕ) where
+  ran : Stream c k xs b (run fresh b (fed xs)) → Demand3 k xs (run fresh b (fed xs))
+  ran w =
+      let ks = unspoiled k xs in
+      let p = parts xs k 0 c fresh b (start b c (w .right)) (w .sent) (w .refused) in
+      let chained = chain xs c k 0 (w .sent) in
       let r = rounds ks (b .openCells) c k 0 chained in
       let m = frames ks (b .openSamples) c k 0 chained in
-      let accums = each-out Joined Torn outOf Typed Filled filled (r .groups) (r .cut) (subst⁻¹ (Every Typed) (r .whole) (all-typed ks c k 0 chained)) in
-      let majors-are = each-out Beside Behind majorOf (λ x. Unit {0}) MajorFilled (λ x xs u l. major-filled x xs l) (m .groups) (m .cut) (every-unit (flat (m .groups))) in
-      let rounds-out = subst⁻¹ (Pairwise Filled (r .groups)) (p .cells ∙ r .is) accums in
-      let frames-out = subst⁻¹ (Pairwise MajorFilled (m .groups)) (p .samples ∙ m .is) majors-are in
+      let all-filled = each-out Joined Parted outOf Typed Filled filled (r .groups) (r .cut) (subst⁻¹ (Every Typed) (r .whole) (all-typed ks c k 0 chained)) in
+      let majors-filled = each-out Beside Behind majorOf (λ x. Unit {0}) MajorFilled (λ x xs u l. major-filled x xs l) (m .groups) (m .cut) (every-unit (flat (m .groups))) in
+      let parts-out = subst⁻¹ (Pairwise Filled (r .groups)) (p .cells ∙ r .is) all-filled in
+      let major-out = subst⁻¹ (Pairwise MajorFilled (m .groups)) (p .samples ∙ m .is) majors-filled in
       record {
         accepted = p .accepted;
-        rounds = r .groups;
-        rounds-whole = r .whole;
-        rounds-cut = r .cut;
-        rounds-out = rounds-out;
-        frames = m .groups;
-        frames-whole = m .whole;
-        frames-cut = m .cut;
-        frames-out = frames-out;
-        cells-sum = cells-total (r .groups) _ rounds-out ∙ ap (λ (g : List Kept). scienceSize * length g) (r .whole);
-        samples-sum = samples-total (m .groups) _ frames-out ∙ ap (λ (g : List Kept). samplesSize * length (reals g)) (m .whole);
-        slots-sum = slots-total (m .groups) _ frames-out ∙ ap length (m .whole);
-        listed = run-sound (fed xs) fresh b fresh-sound;
+        parts = r .groups;
+        parts-whole = r .whole;
+        parts-cut = r .cut;
+        parts-out = parts-out;
+        major-parts = m .groups;
+        major-whole = m .whole;
+        major-cut = m .cut;
+        major-out = major-out;
+        cells-sum = cells-total (r .groups) _ parts-out ∙ ap (λ (g : List Kept). scienceSize * length g) (r .whole);
+        samples-sum = samples-total (m .groups) _ major-out ∙ ap (λ (g : List Kept). samplesSize * length (reals g)) (m .whole);
+        slots-sum = slots-total (m .groups) _ major-out ∙ ap length (m .whole);
+        states-sound = run-sound (fed xs) fresh b fresh-sound;
       }
 
-  pub demand-3 : (t : Trace) → Allowed fresh b (fed xs) t → Refused xs t → Demand3 k xs t
-  demand-3 t a q = let e = only-run (fed xs) fresh b t a in subst⁻¹ (Demand3 k xs) e (ran (subst (Refused xs) e q))
+  pub demand-3 : (t : Trace) → Stream c k xs b t → Allowed fresh b (fed xs) t → Demand3 k xs t
+  demand-3 t w a = let e = only-run (fed xs) fresh b t a in subst⁻¹ (Demand3 k xs) e (ran (subst (Stream c k xs b) e w))

@@ -4,7 +4,8 @@
 use mathlib.Core.Path.{_≡_, refl, ap, subst, _∙_}
 use mathlib.Core.List.{List, [], _∷_, _++_, map, append-nil, append-assoc}
 use Prim.Native.Nat.{ℕ}
-use Rattle.stream.specs.Lists.{Every, Pairwise, flat, Linked, final, Across, Cut}
+use Rattle.tables.specs.Every.{Every}
+use Rattle.stream.specs.Lists.{Pairwise, flat, Linked, final, Across, Cut}
 use Rattle.stream.specs.Sending.{Kept}
 
 every-append : (Q : Kept → Type 0) (g h : List Kept) → Every Q (g ++ h) → Every Q g × Every Q h

@@ -1,6 +1,7 @@
 pub mod Runs
 pub mod Calls
 pub mod Parts
+pub mod Spoiling
 pub mod Chains
 pub mod Grouping
 pub mod Marking
@@ -13,6 +14,8 @@ pub mod Slots
 pub mod Sums
 pub mod Demand
 pub mod Once
+pub mod Law
+pub mod Pairs
 pub mod Made
 pub mod Tight
 pub mod Readers

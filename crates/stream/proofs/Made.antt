@@ -19,10 +19,10 @@ use Rattle.record.specs.Rules.{rules, broken, sizeHolds, syncHolds, spacecraftH
 use Rattle.record.specs.Contents.{recordOf}
 use Rattle.state.specs.Deciding.{isRealTime}
 use Rattle.state.specs.Major.{frameSamples}
-use Rattle.reader.specs.Steps.{Buffers, buffers}
-use Rattle.stream.specs.Running.{Sized}
+use Rattle.reader.specs.Steps.{Buffers, buffers, sized}
 use Rattle.stream.specs.Sending.{realTime, SentAt}
 use Rattle.stream.proofs.Calls.{noCells, noSamples}
+use Rattle.stream.proofs.Parts.{Lengths, is-sized}
 
 -- a record at count c, below 256, with Frame Code t and ones in the rest of the packet; day 1, flags 01
 unfoldable pub made : ℕ → ℕ → List ℕ
@@ -110,9 +110,12 @@ module _ (c k : ℕ) (l : 100 ≤ c) (h : c < 140) where
 unfoldable pub lent : Buffers
 lent = buffers noCells noCells noSamples noSamples
 
-pub sized : Sized lent
+pub lent-lengths : Lengths lent
 unfolding lent
-sized =
+lent-lengths =
     let c = length-replicate {A = ℕ} cellsSize 0 in
     let s = length-replicate {A = ℤ} frameSamples (pos 0) in
     record { cells-open = c; cells-finished = c; samples-open = s; samples-finished = s }
+
+pub lent-sized : sized lent ≡ true
+lent-sized = is-sized lent lent-lengths

@@ -1,12 +1,14 @@
 -- Elements of lists: of a cutting in which some key rises, each stands in exactly one part.
 -- Assumes nothing.
-use mathlib.Core.Path.{_≡_, refl, sym, ap, subst, _∙_}
+use mathlib.Core.Path.{_≡_, refl, sym, ap, subst, subst⁻¹, _∙_}
+use mathlib.Core.Bool.{Bool, true, false, cond}
 use mathlib.Core.List.{List, [], _∷_, _++_}
 use mathlib.Core.Logic.{_⊎_, inl, inr, ⊎-elim}
 use Prim.Native.Nat.{ℕ, _+_, _≤_}
 use native.Mathlib.Omega.{arith}
-use Rattle.stream.specs.Lists.{Every, Some, Pairwise, ExactlyOne, Neighbours, flat, final, Across, Cut}
-use Rattle.stream.specs.Sending.{Kept}
+use Rattle.tables.specs.Every.{Every}
+use Rattle.stream.specs.Lists.{Some, Pairwise, ExactlyOne, Neighbours, flat, final, Across, Cut}
+use Rattle.stream.specs.Sending.{realTime, Kept, reals}
 use Rattle.stream.proofs.Marking.{Rising, rising-down}
 
 abbrev pub In : Kept → List Kept → Type 0
@@ -54,6 +56,27 @@ unfolding Some
 in-either [] h f i = inr i
 in-either (x ∷ g) h f (inl e) = inl (inl e)
 in-either (x ∷ g) h f (inr i) = ⊎-elim (λ (j : In f g). inl (inr j)) (λ (j : In f h). inr j) (in-either g h f i)
+
+-- among the real-time ones
+pub real-in : (xs : List Kept) (f : Kept) → In f (reals xs) → In f xs × (realTime (f .bytes) ≡ true)
+unfolding Some reals
+real-in [] f i = absurd i
+real-in (x ∷ xs) f i = go (realTime (x .bytes)) refl i (λ j. real-in xs f j)
+  where
+    go : (t : Bool) → realTime (x .bytes) ≡ t → In f (cond t (x ∷ reals xs) (reals xs)) → (In f (reals xs) → In f xs × (realTime (f .bytes) ≡ true)) → In f (x ∷ xs) × (realTime (f .bytes) ≡ true)
+    go true r (inl e) ih = (inl e, subst (λ (y : Kept). realTime (y .bytes) ≡ true) e r)
+    go true r (inr j) ih = let k = ih j in (inr (k .0), k .1)
+    go false r j ih = let k = ih j in (inr (k .0), k .1)
+
+pub in-real : (xs : List Kept) (f : Kept) → In f xs → realTime (f .bytes) ≡ true → In f (reals xs)
+unfolding Some reals
+in-real [] f i r = absurd i
+in-real (x ∷ xs) f (inl e) r = let q : realTime (x .bytes) ≡ true = subst⁻¹ (λ (y : Kept). realTime (y .bytes) ≡ true) e r in rw q (inl e)
+in-real (x ∷ xs) f (inr i) r = go (realTime (x .bytes)) (in-real xs f i r)
+  where
+    go : (t : Bool) → In f (reals xs) → In f (cond t (x ∷ reals xs) (reals xs))
+    go true j = inr j
+    go false j = j
 
 module _ (key : Kept → ℕ) where
   -- keys from low on
@@ -121,11 +144,11 @@ module _ {O : Type 0} (P : List Kept → O → Type 0) (rs : List Kept) where
       none gs os (h .1) (λ x i. a x (in-behind g (flat gs) x i)) (λ i. n (in-behind g (flat gs) f i)),
     )
 
-    pub once : (key : Kept → ℕ) (gs : List (List Kept)) (os : List O) (low : ℕ) → Pairwise P gs os → Among rs (flat gs) → Rising key low (flat gs) → In f (flat gs) → ExactlyOne Own os
+    pub once-in : (key : Kept → ℕ) (gs : List (List Kept)) (os : List O) (low : ℕ) → Pairwise P gs os → Among rs (flat gs) → Rising key low (flat gs) → In f (flat gs) → ExactlyOne Own os
     unfolding Pairwise ExactlyOne flat Some
-    once key [] os low h a r i = absurd i
-    once key (g ∷ gs) [] low h a r i = absurd h
-    once key (g ∷ gs) (o ∷ os) low h a r i = go (in-either g (flat gs) f i) (λ j. once key gs os low (h .1) behind (rising-behind key g (flat gs) low r) j)
+    once-in key [] os low h a r i = absurd i
+    once-in key (g ∷ gs) [] low h a r i = absurd h
+    once-in key (g ∷ gs) (o ∷ os) low h a r i = go (in-either g (flat gs) f i) (λ j. once-in key gs os low (h .1) behind (rising-behind key g (flat gs) low r) j)
       where
         front : Among rs g
         front = λ x i. a x (in-front g (flat gs) x i)

@@ -4,24 +4,29 @@ use mathlib.Core.Path.{_≡_, refl, sym, ap, subst, subst⁻¹, _∙_}
 use mathlib.Core.Bool.{Bool, true, false, true≢false}
 use mathlib.Core.List.{List, [], _∷_}
 use mathlib.Core.Logic.{_⊎_, inl, inr, ⊎-elim}
-use Prim.Native.Nat.{ℕ, _+_, _%_, _≤_}
+use Prim.Native.Nat.{ℕ, _+_, _%_, _<_, _≤_}
 use native.Mathlib.Decide.{ℕ-discrete}
 use native.Mathlib.Omega.{arith}
 use Rattle.tables.specs.Marks.{bitSet}
-use Rattle.carriage.specs.Carriage.{types}
+use lib.ListN.{getD}
+use Rattle.record.specs.Layout.{frameCode, scienceBytes}
+use Rattle.carriage.specs.Carriage.{types, place, carrier, byteOf}
+use Rattle.carriage.proofs.EachCell.{once}
+use Rattle.cells.specs.Laying.{topPair, pairAt}
 use Rattle.state.specs.List.{fresh}
 use Rattle.reader.specs.Steps.{Buffers}
-use Rattle.stream.specs.Lists.{Every, Some, Pairwise, ExactlyOne, Neighbours, flat, Linked, Cut}
-use Rattle.stream.specs.Running.{Sized, Trace, Allowed, ClosedAccumulation, ClosedMajor, accumulations, majors}
-use Rattle.stream.specs.Sending.{realTime, next, Fate, Sends, fed, Refused, Kept, keptOf, reals}
-use Rattle.stream.specs.Cutting.{at, typeOf, round, lostBetween, major, Joined, Torn, Beside, Behind}
-use Rattle.stream.specs.Filling.{Stands, Filled, slot, Slotted, MajorFilled}
-use Rattle.stream.specs.Once.{Own, Unmixed, OwnMajor, Once}
+use Rattle.tables.specs.Every.{Every}
+use Rattle.stream.specs.Lists.{Some, Pairwise, ExactlyOne, Neighbours, flat, Linked, Cut}
+use Rattle.stream.specs.Running.{Trace, Allowed, ClosedAccumulation, ClosedMajor, accumulations, majors}
+use Rattle.stream.specs.Sending.{realTime, next, Fate, fed, Stream, Kept, reals, unspoiled}
+use Rattle.stream.specs.Cutting.{at, typeOf, round, lostBetween, tears, major, Joined, Parted, Beside, Behind}
+use Rattle.stream.specs.Filling.{packet, Stands, Missing, Filled, slot, Sampled, Slotted, MajorFilled}
+use Rattle.stream.specs.Once.{Own, Unmixed, OwnMajor, UnmixedMajor, OnceEach}
 use Rattle.stream.proofs.Chains.{Chain, chain}
 use Rattle.stream.proofs.Grouping.{all-share}
 use Rattle.stream.proofs.Marking.{Rising, rising-down}
 use Rattle.stream.proofs.Reals.{rising-reals}
-use Rattle.stream.proofs.Members.{In, Among, among-all, every-in, in-every, some-in, in-some, each, some-out, once, unique, beside}
+use Rattle.stream.proofs.Members.{In, Among, among-all, every-in, in-every, some-in, in-some, each, some-out, once-in, unique, beside, real-in, in-real}
 use Rattle.stream.proofs.Demand.{demand-3}
 
 -- counts rise, and the real-time ones' numbers, which give their types
@@ -123,19 +128,36 @@ module _ (rs : List Kept) (c k : ℕ) (counts : Rising at c rs) (serials : Risin
 
   -- what is held comes from one round
   unmixed-part : (g : List Kept) (a : ClosedAccumulation) → Part g a → Among rs g → Unmixed rs a
-  unmixed-part g a p w = record {
-    held = λ u l e. ⊎-elim (λ (s : Some (λ y. typeOf y ≡ u) g). from u s) (λ (n : Every (λ y. typeOf y ≡ u → ⊥) g). absurd (true≢false (sym e ∙ p .0 .others u l n .unheld))) (found typeOf u g);
-    unheld = λ u l e. p .0 .others u l (in-every (λ y. typeOf y ≡ u → ⊥) g (λ y j q. true≢false (sym (every-in (λ f. Stands f a) g y (p .0 .own) j .held) ∙ ap (λ (n : ℕ). bitSet (a .report .held) n) q ∙ e)));
+  unfolding Tied Some
+  unmixed-part [] a p w = absurd (p .1)
+  unmixed-part (h ∷ t) a p w = record {
+    of = round h;
+    first = some-in (λ x. (at x ≡ a .report .first) × (round x ≡ round h)) rs h (w h (inl refl)) (sym (p .0 .first), refl);
+    cell = λ q l e.
+        let o = once q l in
+        source (carrier q) (o .is-type) e (λ f. getD (a .cells) q 0 ≡ getD (scienceBytes (packet f)) (byteOf q) 0) (λ f z s.
+        sym (ap (λ (n : ℕ). getD (a .cells) n 0) (ap (λ (u : ℕ). place u (byteOf q)) z ∙ o .is)) ∙ s .science (byteOf q) (o .is-byte));
+    no-cell = λ q l e. let o = once q l in sym (ap (λ (n : ℕ). getD (a .cells) n 0) (o .is)) ∙ absent (carrier q) (o .is-type) e .science (byteOf q) (o .is-byte);
+    pair = λ u l e. source u l e (λ f. pairAt (a .cells) u ≡ topPair (frameCode (packet f))) (λ f z s. ap (λ (n : ℕ). pairAt (a .cells) n) (sym z) ∙ s .pair);
+    no-pair = λ u l e. absent u l e .pair;
   }
     where
-      from : (u : ℕ) → Some (λ y. typeOf y ≡ u) g → Some (λ f. (typeOf f ≡ u) × Own rs f a × Stands f a) rs
-      from u s = in-some (λ y. typeOf y ≡ u) (Some (λ f. (typeOf f ≡ u) × Own rs f a × Stands f a) rs) g s (λ y j e.
-          some-in (λ f. (typeOf f ≡ u) × Own rs f a × Stands f a) rs y (w y j) (e, part-own y g a p w j, every-in (λ f. Stands f a) g y (p .0 .own) j))
+      -- a type that is held is that of a record of the part
+      source : (u : ℕ) → u < types → bitSet (a .report .held) u ≡ true → (Q : Kept → Type 0) → ((f : Kept) → typeOf f ≡ u → Stands f a → Q f) → Some (λ f. (typeOf f ≡ u) × (round f ≡ round h) × Q f) rs
+      source u l e Q k =
+          ⊎-elim
+          (λ (s : Some (λ y. typeOf y ≡ u) (h ∷ t)). in-some (λ y. typeOf y ≡ u) (Some (λ f. (typeOf f ≡ u) × (round f ≡ round h) × Q f) rs) (h ∷ t) s (λ y j z.
+          some-in (λ f. (typeOf f ≡ u) × (round f ≡ round h) × Q f) rs y (w y j) (z, one-round t h y (p .1) j, k y z (every-in (λ f. Stands f a) (h ∷ t) y (p .0 .own) j))))
+          (λ (n : Every (λ y. typeOf y ≡ u → ⊥) (h ∷ t)). absurd (true≢false (sym e ∙ p .0 .others u l n .unheld)))
+          (found typeOf u (h ∷ t))
+
+      absent : (u : ℕ) → u < types → bitSet (a .report .held) u ≡ false → Missing u a
+      absent u l e = p .0 .others u l (in-every (λ y. typeOf y ≡ u → ⊥) (h ∷ t) (λ y j q. true≢false (sym (every-in (λ f. Stands f a) (h ∷ t) y (p .0 .own) j .held) ∙ ap (λ (n : ℕ). bitSet (a .report .held) n) q ∙ e)))
 
   -- all accumulations handed out
   module _ (gs : List (List Kept)) (os : List ClosedAccumulation) (whole : flat gs ≡ rs) (parts : Pairwise Part gs os) where
     own-once : Every (λ f. ExactlyOne (Own rs f) os) rs
-    own-once = in-every _ rs (λ f i. once Part rs (Own rs f) f (part-own f) (own-part f i) serial gs os k parts (among-all rs (flat gs) whole) (subst⁻¹ (Rising serial k) whole serials) (subst⁻¹ (In f) whole i))
+    own-once = in-every _ rs (λ f i. once-in Part rs (Own rs f) f (part-own f) (own-part f i) serial gs os k parts (among-all rs (flat gs) whole) (subst⁻¹ (Rising serial k) whole serials) (subst⁻¹ (In f) whole i))
 
     own-stands : Every (λ f. Every (λ a. Own rs f a → Stands f a) os) rs
     own-stands = in-every _ rs (λ f i. each Part rs (λ a. Own rs f a → Stands f a) (λ g a p w o. every-in (λ f. Stands f a) g f (p .0 .own) (own-part f i g a p w o)) gs os parts (among-all rs (flat gs) whole))
@@ -143,11 +165,11 @@ module _ (rs : List Kept) (c k : ℕ) (counts : Rising at c rs) (serials : Risin
     all-unmixed : Every (Unmixed rs) os
     all-unmixed = each Part rs (Unmixed rs) unmixed-part gs os parts (among-all rs (flat gs) whole)
 
-    torn-where : Cut Joined Torn gs → (p f : Kept) → Neighbours p f rs → round p ≡ round f → Some (λ a. Own rs p a × Own rs f a) os ⊎ (36 ≤ lostBetween p f)
+    torn-where : Cut Joined Parted gs → (p f : Kept) → Neighbours p f rs → round p ≡ round f → Some (λ a. Own rs p a × Own rs f a) os ⊎ (tears ≤ lostBetween p f)
     torn-where cut p f n r =
         ⊎-elim (λ (s : Some (λ g. In p g × In f g) gs). inl (some-out Part rs (λ a. Own rs p a × Own rs f a) (λ g. In p g × In f g) (λ g a q w i. (part-own p g a q w (i .0), part-own f g a q w (i .1))) gs os parts (among-all rs (flat gs) whole) s))
-        (λ (s : Torn p f). inr (s r))
-        (beside Joined Torn p f gs cut (subst⁻¹ (Neighbours p f) whole n))
+        (λ (s : Parted p f). inr (s r))
+        (beside Joined Parted p f gs cut (subst⁻¹ (Neighbours p f) whole n))
 
 -- the major frames of the kept records rs
 module _ (rs : List Kept) (c : ℕ) (counts : Rising at c rs) where
@@ -166,30 +188,54 @@ module _ (rs : List Kept) (c : ℕ) (counts : Rising at c rs) where
           let n : major y ≡ major f = sym (every-in (λ f. Slotted f m) g y (p .0 .own) j .number) ∙ o .0 in
           subst (λ (z : Kept). In z g) (unique at rs c y f counts (w y j) i (omega arith)) j)
 
+  -- what is held comes from its records
+  unmixed-slots : (g : List Kept) (m : ClosedMajor) → Slotting g m → Among rs g → UnmixedMajor rs m
+  unmixed-slots g m p w = record {
+    held = λ i l e.
+        ⊎-elim (λ (s : Some (λ y. slot y ≡ i) g). in-some (λ y. slot y ≡ i) (Some (λ f. (slot f ≡ i) × Slotted f m) rs) g s (λ y j z. some-in (λ f. (slot f ≡ i) × Slotted f m) rs y (w y j) (z, stands y j)))
+        (λ (n : Every (λ y. slot y ≡ i → ⊥) g). absurd (true≢false (sym e ∙ p .0 .no-slot i l n .unheld))) (found (λ (x : Kept). slot x) i g);
+    unheld = λ i l e. p .0 .no-slot i l (in-every (λ y. slot y ≡ i → ⊥) g (λ y j z. true≢false (sym (stands y j .held) ∙ ap (λ (n : ℕ). bitSet (m .frame .slots) n) z ∙ e)));
+    marked = λ i l e.
+        ⊎-elim (λ (s : Some (λ y. slot y ≡ i) (reals g)). in-some (λ y. slot y ≡ i) (Some (λ f. (slot f ≡ i) × (major f ≡ m .frame .number) × Sampled f m) (reals rs)) (reals g) s (λ y j z.
+        let r = real-in g y j in
+        some-in (λ f. (slot f ≡ i) × (major f ≡ m .frame .number) × Sampled f m) (reals rs) y (in-real rs y (w y (r .0)) (r .1)) (z, sym (stands y (r .0) .number), stands y (r .0) .mag (r .1))))
+        (λ (n : Every (λ y. slot y ≡ i → ⊥) (reals g)). absurd (true≢false (sym e ∙ p .0 .no-mag i l n .unmarked))) (found (λ (x : Kept). slot x) i (reals g));
+    unmarked = λ i l e. p .0 .no-mag i l (in-every (λ y. slot y ≡ i → ⊥) (reals g) (λ y j z.
+        let r = real-in g y j in
+        true≢false (sym (stands y (r .0) .mag (r .1) .marked) ∙ ap (λ (n : ℕ). bitSet (m .frame .«mag_slots») n) z ∙ e)));
+  }
+    where
+      stands : (y : Kept) → In y g → Slotted y m
+      stands y j = every-in (λ f. Slotted f m) g y (p .0 .own) j
+
   module _ (gs : List (List Kept)) (os : List ClosedMajor) (whole : flat gs ≡ rs) (parts : Pairwise Slotting gs os) where
     major-once : Every (λ f. ExactlyOne (OwnMajor f) os) rs
-    major-once = in-every _ rs (λ f i. once Slotting rs (OwnMajor f) f (slot-own f) (own-slot f i) (λ x. at x) gs os c parts (among-all rs (flat gs) whole) (subst⁻¹ (Rising at c) whole counts) (subst⁻¹ (In f) whole i))
+    major-once = in-every _ rs (λ f i. once-in Slotting rs (OwnMajor f) f (slot-own f) (own-slot f i) (λ x. at x) gs os c parts (among-all rs (flat gs) whole) (subst⁻¹ (Rising at c) whole counts) (subst⁻¹ (In f) whole i))
 
     major-slotted : Every (λ f. Every (λ m. OwnMajor f m → Slotted f m) os) rs
     major-slotted = in-every _ rs (λ f i. each Slotting rs (λ m. OwnMajor f m → Slotted f m) (λ g m p w o. every-in (λ f. Slotted f m) g f (p .0 .own) (own-slot f i g m p w o)) gs os parts (among-all rs (flat gs) whole))
 
-pub once-each : (xs : List Fate) (b : Buffers) (c k : ℕ) → Sized b → Sends c k xs → (t : Trace) → Allowed fresh b (fed xs) t → Refused xs t → Once k xs t
-once-each xs b c k z w t a q =
-    let d = demand-3 xs b c k z w t a q in
-    let ks = keptOf k 0 xs in
+    majors-unmixed : Every (UnmixedMajor rs) os
+    majors-unmixed = each Slotting rs (UnmixedMajor rs) unmixed-slots gs os parts (among-all rs (flat gs) whole)
+
+pub once-each : (xs : List Fate) (b : Buffers) (c k : ℕ) (t : Trace) → Stream c k xs b t → Allowed fresh b (fed xs) t → OnceEach k xs t
+once-each xs b c k t w a =
+    let d = demand-3 xs b c k t w a in
+    let ks = unspoiled k xs in
     let rs = reals ks in
-    let chained = chain xs c k 0 w in
+    let chained = chain xs c k 0 (w .sent) in
     let counts = rising-counts ks c k 0 chained in
     let real-counts = rising-reals at ks c counts in
     let serials = rising-serials ks c k 0 chained in
     let known = all-known ks c k 0 chained in
-    let parts = all-tied Joined Torn Filled (d .rounds) (accumulations t) (d .rounds-cut) (d .rounds-out) in
-    let slots = all-tied Beside Behind MajorFilled (d .frames) (majors t) (d .frames-cut) (d .frames-out) in
+    let parts = all-tied Joined Parted Filled (d .parts) (accumulations t) (d .parts-cut) (d .parts-out) in
+    let slots = all-tied Beside Behind MajorFilled (d .major-parts) (majors t) (d .major-cut) (d .major-out) in
     record {
-      one = own-once rs c k real-counts serials known (d .rounds) (accumulations t) (d .rounds-whole) parts;
-      there = own-stands rs c k real-counts serials known (d .rounds) (accumulations t) (d .rounds-whole) parts;
-      unmixed = all-unmixed rs c k real-counts serials known (d .rounds) (accumulations t) (d .rounds-whole) parts;
-      torn = torn-where rs c k real-counts serials known (d .rounds) (accumulations t) (d .rounds-whole) parts (d .rounds-cut);
-      one-major = major-once ks c counts (d .frames) (majors t) (d .frames-whole) slots;
-      there-major = major-slotted ks c counts (d .frames) (majors t) (d .frames-whole) slots;
+      one = own-once rs c k real-counts serials known (d .parts) (accumulations t) (d .parts-whole) parts;
+      there = own-stands rs c k real-counts serials known (d .parts) (accumulations t) (d .parts-whole) parts;
+      unmixed = all-unmixed rs c k real-counts serials known (d .parts) (accumulations t) (d .parts-whole) parts;
+      torn = torn-where rs c k real-counts serials known (d .parts) (accumulations t) (d .parts-whole) parts (d .parts-cut);
+      one-major = major-once ks c counts (d .major-parts) (majors t) (d .major-whole) slots;
+      there-major = major-slotted ks c counts (d .major-parts) (majors t) (d .major-whole) slots;
+      unmixed-major = majors-unmixed ks c counts (d .major-parts) (majors t) (d .major-whole) slots;
     }

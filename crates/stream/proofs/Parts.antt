@@ -31,13 +31,25 @@ use Rattle.state.proofs.Numbers.{number-is}
 use Rattle.state.proofs.Told.{accepted-is}
 use Rattle.state.proofs.Keeping.{step-sound, never-13}
 use Rattle.reader.specs.Buffers.{copiedBy}
+use Rattle.reader.proofs.Lengths.{sizes}
 use Rattle.reader.specs.Steps.{Buffers, sizedBy, sized, input, cellsAfter, samplesAfter}
-use Rattle.stream.specs.Running.{Sized, Call, step, called, run, accumulations, majors}
-use Rattle.stream.specs.Sending.{next, Fate, kept, removed, extra, Sends, fed, Refused, Accepted, Kept, keptOf}
+use Rattle.stream.specs.Running.{Call, step, called, run, traceOf, accumulations, majors}
+use Rattle.stream.specs.Sending.{next, Fate, kept, removed, extra, Sends, fed, ExtraRefused, KeptAccepted, Kept, keptOf}
 use Rattle.stream.proofs.Runs.{answered, finished}
 use Rattle.stream.proofs.Calls.{accumulate, collect, cells-out, samples-out, refused-call, cells-call, samples-call}
 
-is-sized : (b : Buffers) → Sized b → sized b ≡ true
+-- "buffers of the right sizes"
+pub record Lengths (b : Buffers) : Type 0 where
+  pub cells-open : length (b .openCells) ≡ cellsSize
+  pub cells-finished : length (b .finishedCells) ≡ cellsSize
+  pub samples-open : length (b .openSamples) ≡ frameSamples
+  pub samples-finished : length (b .finishedSamples) ≡ frameSamples
+
+pub lengths : (b : Buffers) → sized b ≡ true → Lengths b
+lengths b e = let z = sizes (length (b .openCells)) (length (b .finishedCells)) (length (b .openSamples)) (length (b .finishedSamples)) e in
+    record { cells-open = z .cells; cells-finished = z .finished-cells; samples-open = z .samples; samples-finished = z .finished-samples }
+
+pub is-sized : (b : Buffers) → Lengths b → sized b ≡ true
 unfolding sizedBy
 is-sized b z = rw (z .cells-open, z .cells-finished, z .samples-open, z .samples-finished)
 
@@ -60,7 +72,7 @@ samples-size true false p i s h e = patched p i s h e
 samples-size false true p i s h e = length-replicate {A = ℤ} (length s) (pos 0) ∙ e
 samples-size false false p i s h e = e
 
-pub call-sized : (s : State) (b : Buffers) (r : List ℕ) → Sized b → Sized (called s b r .left)
+pub call-sized : (s : State) (b : Buffers) (r : List ℕ) → Lengths b → Lengths (called s b r .left)
 unfolding called
 call-sized s b r z =
     let x = decidedOf (input s b r) in
@@ -74,11 +86,11 @@ call-sized s b r z =
 -- a reader that a record from count c on is later for
 pub record Ready (s : State) (b : Buffers) (c : ℕ) : Type 0 where
   pub sound : Sound s
-  pub sized : Sized b
+  pub sized : Lengths b
   pub ahead : (d : ℕ) → c ≤ d → later (s .clock) d ≡ true
 
 -- it accepts a record that passes rules 2 to 11
-pub accepts : (s : State) (b : Buffers) (r : List ℕ) → Sound s → Sized b → broken r ≡ 0 → later (s .clock) (recordOf r .count) ≡ true → numberOf (input s b r) ≡ 0
+pub accepts : (s : State) (b : Buffers) (r : List ℕ) → Sound s → Lengths b → broken r ≡ 0 → later (s .clock) (recordOf r .count) ≡ true → numberOf (input s b r) ≡ 0
 unfolding stateHolds clockHolds guardHolds
 accepts s b r h z e l = go (guardHolds i) refl
   where
@@ -105,7 +117,7 @@ moves s b r c h e n = record {
     after d l = lt-ltb (recordOf r .count) d (omega arith)
 
 pub record Parts (k l : ℕ) (xs : List Fate) (s : State) (b : Buffers) : Type 0 where
-  pub accepted : Accepted xs (run s b (fed xs))
+  pub accepted : KeptAccepted xs (run s b (fed xs))
   pub cells : accumulations (run s b (fed xs)) ≡ accumulate (s .accumulation) (b .openCells) (keptOf k l xs)
   pub samples : majors (run s b (fed xs)) ≡ collect (s .major) (b .openSamples) (keptOf k l xs)
 
@@ -115,7 +127,7 @@ is-accepted s b r e = answered (input s b r) ∙ e
 
 -- nothing more is fed: finish
 ends : (k l c : ℕ) (s : State) (b : Buffers) → Ready s b c → Parts k l [] s b
-unfolding run fed keptOf Accepted accumulations majors accumulate collect endedOf
+unfolding traceOf fed keptOf KeptAccepted accumulations majors accumulate collect endedOf
 ends k l c s b h =
     let t : (sized b && listed s) ≡ true = rw (is-sized b (h .sized)) (h .sound .passes) in
     record {
@@ -124,17 +136,17 @@ ends k l c s b h =
       samples = rw t (samples-out (s .major) (b .openSamples) (b .finishedSamples));
     }
 
-pub parts : (xs : List Fate) (k l c : ℕ) (s : State) (b : Buffers) → Ready s b c → Sends c k xs → Refused xs (run s b (fed xs)) → Parts k l xs s b
-unfolding run fed keptOf Sends Refused Accepted accumulations majors
+pub parts : (xs : List Fate) (k l c : ℕ) (s : State) (b : Buffers) → Ready s b c → Sends c k xs → ExtraRefused xs (run s b (fed xs)) → Parts k l xs s b
+unfolding traceOf fed keptOf Sends ExtraRefused KeptAccepted accumulations majors
 parts [] k l c s b h w q = ends k l c s b h
 parts (removed r ∷ xs) k l c s b h w q =
     let v = parts xs (next k r) (l + 1) (c + 1) s b (record { sound = h .sound; sized = h .sized; ahead = λ d z. h .ahead d (omega arith) }) (w .1) q in
     record { accepted = v .accepted; cells = v .cells; samples = v .samples }
 parts (extra x ∷ xs) k l c s b h w q =
     let e = refused-call s b x (q .0) in
-    let v = parts xs k l c s b h w (subst (λ (y : Call). Refused xs (run (y .result .state) (y .left) (fed xs))) e (q .1)) in
+    let v = parts xs k l c s b h w (subst (λ (y : Call). ExtraRefused xs (run (y .result .state) (y .left) (fed xs))) e (q .1)) in
     record {
-      accepted = subst⁻¹ (λ (y : Call). Accepted xs (run (y .result .state) (y .left) (fed xs))) e (v .accepted);
+      accepted = subst⁻¹ (λ (y : Call). KeptAccepted xs (run (y .result .state) (y .left) (fed xs))) e (v .accepted);
       cells = subst⁻¹ (λ (y : Call). accumulations (step y (run (y .result .state) (y .left) (fed xs))) ≡ accumulate (s .accumulation) (b .openCells) (keptOf k l xs)) e (v .cells);
       samples = subst⁻¹ (λ (y : Call). majors (step y (run (y .result .state) (y .left) (fed xs))) ≡ collect (s .major) (b .openSamples) (keptOf k l xs)) e (v .samples);
     }

@@ -1,39 +1,44 @@
--- Any reader that keeps the promises of step and finish meets demand 3, and is none of 01's wrong readers.
+-- No reader that keeps the promises of step and finish breaks demand 2 as 01's wrong readers do, and none that meets demand 3
+-- breaks that as they do.
 -- Assumes nothing.
-use mathlib.Core.Path.{_≡_, refl, sym, ap, subst, _∙_}
-use mathlib.Core.Bool.{true}
-use mathlib.Core.List.{List, [], _∷_}
-use Prim.Native.Nat.{ℕ, _<_}
+use mathlib.Core.Path.{_≡_, refl, sym, ap, subst, subst⁻¹, _∙_}
+use mathlib.Core.Bool.{Bool, true, false, cond}
+use mathlib.Core.List.{List, [], _∷_, _++_}
+use mathlib.Core.Logic.{inl, inr, ⊎-elim}
+use Prim.Native.Nat.{ℕ, _*_, _<_, _≤_}
 use native.Mathlib.Omega.{arith}
 use lib.ListN.{length, getD, getD-replicate}
+use Rattle.tables.specs.Every.{Every}
 use Rattle.record.specs.Contents.{recordOf}
 use Rattle.carriage.specs.Carriage.{types, place}
 use Rattle.carriage.proofs.EachCell.{place-cell}
 use Rattle.cells.specs.Laying.{cellsSize}
+use Rattle.listing.specs.Lines.{framesHeld, cellsHeld}
 use Rattle.state.specs.Clock.{later}
 use Rattle.state.specs.Accumulation.{joins, started}
-use Rattle.state.specs.Deciding.{numberOf, acceptedAt, answerNumber}
+use Rattle.state.specs.Deciding.{numberOf, answerNumber}
+use Rattle.state.specs.declared.accumulation.AccumulationReport.{AccumulationReport}
 use Rattle.state.specs.declared.accumulation.Gap.the-variants.{Joins}
 use Rattle.state.specs.declared.deciding.Answer.{Answer}
-use Rattle.state.specs.declared.deciding.Answer.the-variants.{Accepted}
-use Rattle.state.proofs.Told.{all-pass, passed-size, accepted-is}
+use Rattle.state.proofs.Told.{all-pass, passed-size}
 use Rattle.state.proofs.Keeping.{fresh-sound}
 use Rattle.state.specs.List.{fresh}
 use Rattle.state.specs.declared.State.{State}
 use Rattle.reader.specs.Steps.{Buffers, input}
-use Rattle.stream.specs.Running.{Sized, Call, called, Allowed}
-use Rattle.stream.specs.Sending.{Fate, Sends, fed, Refused, Kept}
-use Rattle.stream.specs.Cutting.{at, typeOf}
-use Rattle.stream.specs.Demand.{Demand3}
-use Rattle.stream.specs.Once.{Once}
-use Rattle.stream.specs.Readers.{Reader, Keeps, traceOf, RefusesAll, FixedAnswer, StoresNothing, Nods, NeverJoins, MadeUp}
+use Rattle.stream.specs.Running.{Reader, Call, traceOf, called, ClosedAccumulation, accumulationOut, accumulations}
+use Rattle.stream.specs.Lists.{ExactlyOne, Pairwise, sum}
+use Rattle.stream.specs.Sending.{Fate, kept, Sends, fed, ExtraRefused, Stream, Kept, keptOf, reals, realUnspoiled}
+use Rattle.stream.specs.Cutting.{at, typeOf, Joined, Parted}
+use Rattle.stream.specs.Filling.{Stands, Filled}
+use Rattle.stream.specs.Demand.{cellsListed}
+use Rattle.stream.specs.Once.{Own}
+use Rattle.stream.specs.Law.{Keeps, Meets}
+use Rattle.stream.specs.Readers.{RefusesAll, FixedAnswer, StoresNothing, Nods, NeverSaysJoins, NeverJoins, MadeUp}
 use Rattle.stream.proofs.Runs.{answered, only-call}
-use Rattle.stream.proofs.Calls.{cellsWith, noCells, opening, joining}
+use Rattle.stream.proofs.Calls.{noCells, opening, joining}
 use Rattle.stream.proofs.Parts.{Ready, accepts, moves}
-use Rattle.stream.proofs.Cells.{Typed, laid-science, other-science}
-use Rattle.stream.proofs.Demand.{demand-3}
-use Rattle.stream.proofs.Once.{once-each}
-use Rattle.stream.proofs.Made.{lent, sized, made, Right, five, six, real-five, real-six}
+use Rattle.stream.proofs.Pairs.{Split, Whole, of-two}
+use Rattle.stream.proofs.Made.{lent, lent-lengths, lent-sized, made, Right, five, six, real-five, real-six, sent-five, sent-six}
 
 -- type 5 at count 100 to the fresh reader, then type 6 at count 101
 first : Kept
@@ -50,75 +55,37 @@ is-six = six 101 (omega arith) (omega arith)
 
 start : Ready fresh lent 100
 unfolding later
-start = record { sound = fresh-sound; sized = sized; ahead = λ d l. refl }
+start = record { sound = fresh-sound; sized = lent-lengths; ahead = λ d l. refl }
 
 first-passes : numberOf (input fresh lent (made 100 5)) ≡ 0
-first-passes = accepts fresh lent (made 100 5) fresh-sound sized (is-five .passes) (start .ahead (recordOf (made 100 5) .count) (omega (arith, is-five .counted)))
+first-passes = accepts fresh lent (made 100 5) fresh-sound lent-lengths (is-five .passes) (start .ahead (recordOf (made 100 5) .count) (omega (arith, is-five .counted)))
 
 abbrev now : Call
 now = called fresh lent (made 100 5)
 
-first-opens : (now .result .state .accumulation ≡ started (typeOf first) (at first)) × (now .left .openCells ≡ cellsWith first noCells)
-unfolding joins first lent
-first-opens = opening fresh lent first first-passes (real-five 100) refl (sized .cells-open)
+first-opens : now .result .state .accumulation ≡ started (typeOf first) (at first)
+unfolding joins first
+first-opens = opening fresh lent first first-passes (real-five 100) refl
 
 ready : Ready (now .result .state) (now .left) 101
 ready = moves fresh lent (made 100 5) 100 start (is-five .counted) first-passes
-
-begun : now .result .state .clock .any ≡ true
-unfolding called acceptedAt
-begun = rw (accepted-is (input fresh lent (made 100 5)) first-passes)
 
 second-passes : numberOf (input (now .result .state) (now .left) (made 101 6)) ≡ 0
 second-passes = accepts (now .result .state) (now .left) (made 101 6) (ready .sound) (ready .sized) (is-six .passes) (ready .ahead (recordOf (made 101 6) .count) (omega (arith, is-six .counted)))
 
 second-joins : joins (now .result .state .accumulation) (typeOf second) (at second) ≡ true
 unfolding joins first second
-second-joins = rw (first-opens .0, is-five .typed, is-five .counted, is-six .typed, is-six .counted)
+second-joins = rw (first-opens, is-five .typed, is-five .counted, is-six .typed, is-six .counted)
 
--- a byte of each, in its cell
+-- its type, and a cell of 0
 type-first : typeOf first ≡ 5
 unfolding first
 type-first = is-five .typed
-
-type-second : typeOf second ≡ 6
-unfolding second
-type-second = is-six .typed
-
-typed-first : Typed first
-unfolding first made
-typed-first = record { small = omega (arith, type-first); code = omega arith }
-
-typed-second : Typed second
-unfolding second made
-typed-second = record { small = omega (arith, type-second); code = omega arith }
-
-module _ (c : List ℕ) where
-  first-byte : getD (cellsWith first c) (place 5 0) 0 ≡ 1
-  unfolding first made
-  first-byte = subst (λ (t : ℕ). getD (cellsWith first c) (place t 0) 0 ≡ 1) type-first (laid-science first c typed-first 0 (omega arith))
-
-  second-byte : getD (cellsWith second c) (place 6 0) 0 ≡ 1
-  unfolding second made
-  second-byte = subst (λ (t : ℕ). getD (cellsWith second c) (place t 0) 0 ≡ 1) type-second (laid-science second c typed-second 0 (omega arith))
 
 none-at : (t : ℕ) → t < types → getD noCells (place t 0) 0 ≡ 0
 none-at t h = getD-replicate {A = ℕ} cellsSize (place t 0) 0 0 (omega (arith, place-cell t 0 h (omega arith)))
 
 module _ (R : Reader) (keeps : Keeps R) where
-  traced : (rs : List (List ℕ)) (s : State) (b : Buffers) → Allowed s b rs (traceOf R s b rs)
-  unfolding Allowed traceOf
-  traced [] s b = keeps .finishes s b
-  traced (r ∷ rs) s b = (keeps .steps s b r, traced rs (R .steps s b r .result .state) (R .steps s b r .left))
-
-  -- the theorem, for any of them
-  pub meets : (xs : List Fate) (b : Buffers) (c k : ℕ) → Sized b → Sends c k xs → Refused xs (traceOf R fresh b (fed xs))
-      → Demand3 k xs (traceOf R fresh b (fed xs)) × Once k xs (traceOf R fresh b (fed xs))
-  meets xs b c k z w q = (
-    demand-3 xs b c k z w (traceOf R fresh b (fed xs)) (traced (fed xs) fresh b) q,
-    once-each xs b c k z w (traceOf R fresh b (fed xs)) (traced (fed xs) fresh b) q,
-  )
-
   is-call : (s : State) (b : Buffers) (r : List ℕ) → R .steps s b r ≡ called s b r
   is-call s b r = only-call s b r (R .steps s b r) (keeps .steps s b r)
 
@@ -138,36 +105,117 @@ module _ (R : Reader) (keeps : Keeps R) where
       let l : length {A = ℕ} [] ≡ 472 = passed-size (input fresh lent []) (all-pass (input fresh lent []) n) in
       omega arith
 
-  -- "One that accepts and stores nothing breaks demand 2's cells"
-  pub not-idle : StoresNothing R → ⊥
-  unfolding lent
-  not-idle h =
-      let e : lent .openCells ≡ cellsWith first noCells = sym (ap (λ (b : Buffers). b .openCells) (h fresh lent (made 100 5))) ∙ ap (λ (x : Call). x .left .openCells) (is-call fresh lent (made 100 5)) ∙ first-opens .1 in
-      omega (arith, sym (none-at 5 (omega arith)) ∙ ap (λ (c : List ℕ). getD c (place 5 0) 0) e ∙ first-byte noCells)
-
-  -- "One that handles the first record and then only nods breaks demand 3": the second frame's bytes aren't in their cells
-  is-second : R .steps (now .result .state) (now .left) (made 101 6) ≡ called (now .result .state) (now .left) (made 101 6)
-  is-second = is-call (now .result .state) (now .left) (made 101 6)
-
-  joined : (called (now .result .state) (now .left) (made 101 6) .result .answer ≡ Accepted (record { fields = recordOf (made 101 6); gap = Joins }))
-      × (called (now .result .state) (now .left) (made 101 6) .left .openCells ≡ cellsWith second (now .left .openCells))
+  -- "One that never joins keeps bytes unmixed but breaks the joining rule in 2"
+  pub says-joins : NeverSaysJoins R → ⊥
   unfolding second
-  joined = joining (now .result .state) (now .left) second second-passes (real-six 101) second-joins
+  says-joins h =
+      let j = joining (now .result .state) (now .left) second second-passes (real-six 101) second-joins in
+      h (now .result .state) (now .left) (made 101 6) (record { fields = recordOf (made 101 6); gap = Joins }) (ap (λ (x : Call). x .result .answer) (is-call (now .result .state) (now .left) (made 101 6)) ∙ j) refl
 
-  pub not-nodding : Nods R → ⊥
-  not-nodding h =
-      let e : now .left .openCells ≡ cellsWith second (now .left .openCells) =
-      sym (ap (λ (b : Buffers). b .openCells) (h (now .result .state) (now .left) (made 101 6) begun)) ∙ ap (λ (x : Call). x .left .openCells) is-second ∙ joined .1 in
-      let z : getD (now .left .openCells) (place 6 0) 0 ≡ 0 =
-      ap (λ (c : List ℕ). getD c (place 6 0) 0) (first-opens .1) ∙ other-science first noCells typed-first 6 (λ q. omega (arith, type-first)) (omega arith) 0 (omega arith) ∙ none-at 6 (omega arith) in
-      omega (arith, sym z ∙ ap (λ (c : List ℕ). getD c (place 6 0) 0) e ∙ second-byte (now .left .openCells))
+-- the stream of the first record alone, and that of both
+one : List Fate
+one = kept (made 100 5) ∷ []
 
-  -- "One that never joins keeps bytes unmixed but breaks the joining rule in 2"; and the tearing clause in 3, which `meets` has
-  pub not-never-joining : NeverJoins R → ⊥
-  not-never-joining h = h (now .result .state) (now .left) (made 101 6) (record { fields = recordOf (made 101 6); gap = Joins }) (ap (λ (x : Call). x .result .answer) is-second ∙ joined .0) refl
+both : List Fate
+both = kept (made 100 5) ∷ kept (made 101 6) ∷ []
 
-  -- "Made-up frame or cell counts break 3, since they are counted from the records fed"
-  pub not-made-up : MadeUp R → ⊥
-  not-made-up m =
-      let d = meets (m .fates) (m .lent) (m .count) (m .serial) (m .sized) (m .sent) (m .refused) .0 in
-      m .miscounted (d .cells-sum, d .samples-sum, d .slots-sum)
+real-one : realUnspoiled 5 one ≡ first ∷ []
+unfolding one keptOf reals first
+real-one = rw (real-five 100)
+
+real-both : realUnspoiled 5 both ≡ first ∷ second ∷ []
+unfolding both keptOf reals first second
+real-both = rw (real-five 100, real-six 101)
+
+-- what is handed out by one that stores nothing
+out-lent : (r : AccumulationReport) (c d : List ℕ) → c ≡ d → Every (λ a. a .cells ≡ d) (accumulationOut r c)
+unfolding Every
+out-lent r c d e = go (r .closed)
+  where
+    go : (t : Bool) → Every (λ (a : ClosedAccumulation). a .cells ≡ d) (cond t (record { report = r; cells = c } ∷ []) [])
+    go true = (e, tt)
+    go false = tt
+
+every-join : {A : Type 0} (P : A → Type 0) (xs ys : List A) → Every P xs → Every P ys → Every P (xs ++ ys)
+unfolding Every
+every-join P [] ys h k = k
+every-join P (x ∷ xs) ys h k = (h .0, every-join P xs ys (h .1) k)
+
+all-lent : (R : Reader) → StoresNothing R → (rs : List (List ℕ)) (s : State) (b : Buffers) → Every (λ a. a .cells ≡ b .finishedCells) (accumulations (traceOf R s b rs))
+unfolding traceOf accumulations
+all-lent R h [] s b = out-lent (R .finishes s b .result .accumulation) (R .finishes s b .left .finishedCells) (b .finishedCells) (ap (λ (x : Buffers). x .finishedCells) (h .finishes s b))
+all-lent R h (r ∷ rs) s b =
+    every-join (λ a. a .cells ≡ b .finishedCells) _ _
+    (out-lent (R .steps s b r .result .accumulation) (R .steps s b r .left .finishedCells) (b .finishedCells) (ap (λ (x : Buffers). x .finishedCells) (h .steps s b r)))
+    (subst⁻¹ (λ (x : Buffers). Every (λ a. a .cells ≡ b .finishedCells) (accumulations (traceOf R (R .steps s b r .result .state) x rs))) (h .steps s b r) (all-lent R h rs (R .steps s b r .result .state) b))
+
+-- the one that has it also has what follows from it, and what all have
+its-own : {A : Type 0} (P Q Z : A → Type 0) (xs : List A) → ExactlyOne P xs → Every (λ x. P x → Q x) xs → Every Z xs → ((x : A) → Q x → Z x → ⊥) → ⊥
+unfolding ExactlyOne Every
+its-own P Q Z [] e q z k = e
+its-own P Q Z (x ∷ xs) (inl e) q z k = k x (q .0 (e .0)) (z .0)
+its-own P Q Z (x ∷ xs) (inr e) q z k = its-own P Q Z xs (e .1) (q .1) (z .1) k
+
+not-there : (a : ClosedAccumulation) → Stands first a → a .cells ≡ lent .finishedCells → ⊥
+unfolding first made lent
+not-there a s e =
+    let y : getD (a .cells) (place 5 0) 0 ≡ 1 = subst (λ (t : ℕ). getD (a .cells) (place t 0) 0 ≡ 1) type-first (s .science 0 (omega arith)) in
+    omega (arith, y, ap (λ (c : List ℕ). getD c (place 5 0) 0) e ∙ none-at 5 (omega arith))
+
+module _ (R : Reader) where
+  stream-one : Stream 100 5 one lent (traceOf R fresh lent (fed one))
+  unfolding one Sends fed ExtraRefused traceOf
+  stream-one = record { sent = (sent-five 100 5 (omega arith) (omega arith) refl, tt); right = lent-sized; refused = tt }
+
+  stream-both : Stream 100 5 both lent (traceOf R fresh lent (fed both))
+  unfolding both Sends fed ExtraRefused traceOf
+  stream-both = record {
+    sent = (sent-five 100 5 (omega arith) (omega arith) refl, (rw (real-five 100) (sent-six 101 6 (omega arith) (omega arith) refl), tt));
+    right = lent-sized;
+    refused = tt;
+  }
+
+  module _ (meets : Meets R) where
+    cells-one : cellsListed (traceOf R fresh lent (fed one)) ≡ 83
+    cells-one = meets one lent 100 5 stream-one .0 .cells-sum ∙ ap (λ (g : List Kept). 83 * length g) real-one
+
+    cells-both : cellsListed (traceOf R fresh lent (fed both)) ≡ 166
+    cells-both = meets both lent 100 5 stream-both .0 .cells-sum ∙ ap (λ (g : List Kept). 83 * length g) real-both
+
+    -- "Made-up frame or cell counts break 3, since they are counted from the records fed"
+    pub not-made-up : MadeUp R → ⊥
+    not-made-up h = omega (arith, cells-one, cells-both, h lent (fed one) (fed both))
+
+    -- "One that handles the first record and then only nods breaks demand 3": its total is that of the first
+    nodded : Nods R → accumulations (traceOf R fresh lent (fed both)) ≡ accumulations (traceOf R fresh lent (fed one))
+    unfolding one both fed traceOf accumulations
+    nodded h = rw (h .closes lent (made 100 5) (made 101 6), h .state lent (made 100 5) (made 101 6), h .left lent (made 100 5) (made 101 6))
+
+    pub not-nodding : Nods R → ⊥
+    not-nodding h = omega (arith, cells-one, cells-both, ap (λ (os : List ClosedAccumulation). sum (λ a. cellsHeld (a .report)) os) (nodded h))
+
+    -- "One that never joins ... breaks ... the tearing clause in 3"
+    not-both : (os : List ClosedAccumulation) → Every (λ a. framesHeld (a .report) ≤ 1) os → Pairwise Filled ((first ∷ second ∷ []) ∷ []) os → ⊥
+    unfolding Every Pairwise
+    not-both [] few h = h
+    not-both (a ∷ []) few h = omega (arith, few .0, h .0 .frames)
+    not-both (a ∷ b ∷ os) few h = h .1
+
+    pub not-never-joining : NeverJoins R → ⊥
+    unfolding first second
+    not-never-joining h =
+        let d = meets both lent 100 5 stream-both .0 in
+        ⊎-elim (λ (s : Split Joined Parted first second (d .parts)). omega (arith, s .related refl))
+        (λ (w : Whole Joined Parted first second (d .parts)). not-both (accumulations (traceOf R fresh lent (fed both))) (h lent (fed both)) (subst (λ (gs : List (List Kept)). Pairwise Filled gs (accumulations (traceOf R fresh lent (fed both)))) (w .is) (d .parts-out)))
+        (of-two Joined Parted first second (d .parts) (d .parts-whole ∙ real-both) (d .parts-cut))
+
+    -- "One that accepts and stores nothing breaks ... demand 3's total": what it hands out is what was lent
+    pub not-idle : StoresNothing R → ⊥
+    unfolding Every
+    not-idle h =
+        let o = meets one lent 100 5 stream-one .1 in
+        let accs = accumulations (traceOf R fresh lent (fed one)) in
+        let rs = realUnspoiled 5 one in
+        let only = subst (Every (λ f. ExactlyOne (Own rs f) accs)) real-one (o .one) .0 in
+        let there = subst (Every (λ f. Every (λ a. Own rs f a → Stands f a) accs)) real-one (o .there) .0 in
+        its-own (Own rs first) (Stands first) (λ a. a .cells ≡ lent .finishedCells) accs only there (all-lent R h (fed one) fresh lent) not-there

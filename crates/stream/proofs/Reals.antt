@@ -5,7 +5,7 @@ use mathlib.Core.Bool.{Bool, true, false}
 use mathlib.Core.List.{List, [], _∷_}
 use Prim.Native.Nat.{ℕ, _+_}
 use native.Mathlib.Omega.{arith}
-use Rattle.stream.specs.Lists.{Every}
+use Rattle.tables.specs.Every.{Every}
 use Rattle.stream.specs.Sending.{realTime, Kept, reals}
 use Rattle.stream.proofs.Marking.{Rising, rising-down}
 

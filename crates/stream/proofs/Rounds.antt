@@ -17,7 +17,7 @@ use Rattle.state.specs.declared.accumulation.Accumulation.{Accumulation}
 use Rattle.state.proofs.Facts.{two}
 use Rattle.stream.specs.Running.{ClosedAccumulation}
 use Rattle.stream.specs.Sending.{realTime, next, Kept, reals}
-use Rattle.stream.specs.Cutting.{at, typeOf, lostBetween, Joined, Torn}
+use Rattle.stream.specs.Cutting.{at, typeOf, lostBetween, tears, Joined, Parted}
 use Rattle.stream.specs.Filling.{firstCount}
 use Rattle.stream.proofs.Calls.{cellsWith, noCells, closing, accumulate}
 use Rattle.stream.proofs.Chains.{Next, Chain}
@@ -78,7 +78,7 @@ module _ (g : List Kept) (p f : Kept) (o c k l : ℕ) (t : Ties p o c k l) (n : 
       let v : gap (openWith g p o) (at f) ≤ most (typeOf p) (typeOf f) = leb-true _ _ (d .1) in
       record { same = omega (arith, gap-is, type-is); rising = u; near = omega (arith, gap-is) }
 
-  torn-so : isOpen (openWith g p o) ≡ true → joins (openWith g p o) (typeOf f) (at f) ≡ false → Torn p f
+  torn-so : isOpen (openWith g p o) ≡ true → joins (openWith g p o) (typeOf f) (at f) ≡ false → Parted p f
   unfolding joins
   torn-so i e same = go (leb (gap (openWith g p o) (at f)) (most (typeOf p) (typeOf f))) refl
     where
@@ -88,7 +88,7 @@ module _ (g : List Kept) (p f : Kept) (o c k l : ℕ) (t : Ties p o c k l) (n : 
       few : fewest (typeOf p) (typeOf f) ≤ gap (openWith g p o) (at f)
       few = omega (arith, type-is, gap-is)
 
-      go : (b : Bool) → leb (gap (openWith g p o) (at f)) (most (typeOf p) (typeOf f)) ≡ b → 36 ≤ lostBetween p f
+      go : (b : Bool) → leb (gap (openWith g p o) (at f)) (most (typeOf p) (typeOf f)) ≡ b → tears ≤ lostBetween p f
       go true q = absurd (true≢false (sym (rw (i, lt-ltb (typeOf p) (typeOf f) rises, le-leb (fewest (typeOf p) (typeOf f)) (gap (openWith g p o) (at f)) few, q) refl) ∙ e))
       go false q = omega (arith, leb-false (gap (openWith g p o) (at f)) (most (typeOf p) (typeOf f)) q, gap-is, rises)
 
@@ -115,11 +115,11 @@ module _ (x : Kept) (xs : List Kept) (other : realTime (x .bytes) ≡ false) whe
 
 -- with the frames h ∷ t open, p the last of them
 abbrev From : Kept → List Kept → Kept → ℕ → List Kept → Type 0
-From h t p o xs = Told Joined Torn outOf h t p (reals xs) (accumulate (openWith (h ∷ t) p o) (cellsFrom noCells (h ∷ t)) xs)
+From h t p o xs = Told Joined Parted outOf h t p (reals xs) (accumulate (openWith (h ∷ t) p o) (cellsFrom noCells (h ∷ t)) xs)
 
 told : (xs : List Kept) (h : Kept) (t : List Kept) (p : Kept) (o c k l : ℕ) → Ties p o c k l → Chain c k l xs → From h t p o xs
 unfolding accumulate reals Chain
-told [] h t p o c k l e w = rw (closes h t p o) (told-end Joined Torn outOf h t p)
+told [] h t p o c k l e w = rw (closes h t p o) (told-end Joined Parted outOf h t p)
 told (x ∷ xs) h t p o c k l e w =
     go (realTime (x .bytes)) (joins (openWith (h ∷ t) p o) (typeOf x) (at x)) refl refl (λ h t p o e. told xs h t p o (at x + 1) (next (x .serial) (x .bytes)) (x .lost) e (w .1))
   where
@@ -134,22 +134,22 @@ told (x ∷ xs) h t p o c k l e w =
         (ih h t p (o + 1) (ties-other p x o c k l e n r))
     go true true r j ih =
         rw (reals-more x xs r, accumulate-join x xs r (openWith (h ∷ t) p o) (cellsFrom noCells (h ∷ t)) j, ← marks-more typeOf (h ∷ t) 0 x, ← cells-more (h ∷ t) noCells x)
-        (told-joined Joined Torn outOf h t p x (reals xs) _ (joined-so (h ∷ t) p x o c k l e n r j) (ih h (t ++ (x ∷ [])) x 0 (ties-real x c k l n r)))
+        (told-joined Joined Parted outOf h t p x (reals xs) _ (joined-so (h ∷ t) p x o c k l e n r j) (ih h (t ++ (x ∷ [])) x 0 (ties-real x c k l n r)))
     go true false r j ih =
         rw (reals-more x xs r, accumulate-open x xs r (openWith (h ∷ t) p o) (cellsFrom noCells (h ∷ t)) j, closes h t p o)
-        (told-opened Joined Torn outOf h t p x (reals xs) _ (torn-so (h ∷ t) p x o c k l e n r (is-open h t p o) j) (ih x [] x 0 (ties-real x c k l n r)))
+        (told-opened Joined Parted outOf h t p x (reals xs) _ (torn-so (h ∷ t) p x o c k l e n r (is-open h t p o) j) (ih x [] x 0 (ties-real x c k l n r)))
 
 -- from nothing open: the accumulations handed out are some cutting of the kept real-time records
 abbrev pub Rounds : List ℕ → List Kept → Type 0
-Rounds b xs = Grouped Joined Torn outOf (reals xs) (accumulate noAccumulation b xs)
+Rounds b xs = Grouped Joined Parted outOf (reals xs) (accumulate noAccumulation b xs)
 
 pub rounds : (xs : List Kept) (b : List ℕ) (c k l : ℕ) → Chain c k l xs → Rounds b xs
 unfolding accumulate closing reals Chain joins
-rounds [] b c k l w = grouped-none Joined Torn outOf
+rounds [] b c k l w = grouped-none Joined Parted outOf
 rounds (x ∷ xs) b c k l w = go (realTime (x .bytes)) refl (rounds xs b (at x + 1) (next (x .serial) (x .bytes)) (x .lost) (w .1))
   where
     go : (a : Bool) → realTime (x .bytes) ≡ a → Rounds b xs → Rounds b (x ∷ xs)
     go false e r = rw (reals-same x xs e, accumulate-pass x xs e noAccumulation b) r
     go true e r =
         rw (reals-more x xs e, accumulate-open x xs e noAccumulation b refl)
-        (grouped Joined Torn outOf x (reals xs) _ (told xs x [] x 0 (at x + 1) (next (x .serial) (x .bytes)) (x .lost) (ties-real x c k l (w .0) e) (w .1)))
+        (grouped Joined Parted outOf x (reals xs) _ (told xs x [] x 0 (at x + 1) (next (x .serial) (x .bytes)) (x .lost) (ties-real x c k l (w .0) e) (w .1)))

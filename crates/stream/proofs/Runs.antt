@@ -17,9 +17,10 @@ use Rattle.state.specs.declared.deciding.Stepped.{Stepped}
 use Rattle.state.specs.declared.ending.Finished.{Finished}
 use Rattle.state.proofs.Told.{accepted-is, refused-is}
 use Rattle.state.proofs.Keeping.{step-sound, end-sound}
-use Rattle.reader.specs.Steps.{Buffers, buffers, sized, input, stepped, StepIs}
-use Rattle.stream.specs.Lists.{Every}
-use Rattle.stream.specs.Running.{Call, End, Trace, step, finish, called, run, Allowed, states}
+use Rattle.reader.specs.Steps.{Buffers, buffers, sized, input}
+use Rattle.tables.specs.Every.{Every}
+use Rattle.stream.specs.Running.{Call, End, Reader, Trace, step, finish, traceOf, called, defined, run, StepAllowed, Allowed, states}
+use Rattle.stream.specs.Law.{Keeps}
 
 -- the number of a decision is that of its answer
 pub answered : (i : Input) → answerNumber (decidedOf i .stepped .answer) ≡ numberOf i
@@ -53,15 +54,13 @@ module _ {oc oc′ fc fc′ : List ℕ} {os os′ fs fs′ : List ℤ} (a : oc �
   same-last x y e = rw (e, a, b, c, d)
 
 -- whatever meets the promise of step is this call
-pub only-call : (s : State) (b : Buffers) (r : List ℕ) (c : Call)
-    → StepIs s (b .openCells) (b .finishedCells) (b .openSamples) (b .finishedSamples) r (c .result) (c .left .openCells) (c .left .finishedCells) (c .left .openSamples) (c .left .finishedSamples)
-    → c ≡ called s b r
+pub only-call : (s : State) (b : Buffers) (r : List ℕ) (c : Call) → StepAllowed s b r c → c ≡ called s b r
 unfolding called
 only-call s b r c h = same-call (h .cells-open) (h .cells-finished) (h .samples-open) (h .samples-finished) _ _ (h .result)
 
 -- and at each call has this trace
 pub only-run : (rs : List (List ℕ)) (s : State) (b : Buffers) (t : Trace) → Allowed s b rs t → t ≡ run s b rs
-unfolding Allowed run
+unfolding Allowed traceOf
 only-run [] s b (finish e) h = ap finish (same-last (h .cells-open) (h .cells-finished) (h .samples-open) (h .samples-finished) _ _ (h .result))
 only-run [] s b (step c t) h = absurd h
 only-run (r ∷ rs) s b (finish e) h = absurd h
@@ -69,17 +68,25 @@ only-run (r ∷ rs) s b (step c t) h =
     ap (step c) (only-run rs (c .result .state) (c .left) t (h .1))
     ∙ ap (λ (x : Call). step x (run (x .result .state) (x .left) rs)) (only-call s b r c (h .0))
 
--- and it does meet them
+-- the reader of the definitions keeps the promises
+pub defined-keeps : Keeps defined
+unfolding called
+defined-keeps = record {
+  steps = λ s b r. record { result = refl; number = answered (input s b r); cells-open = refl; cells-finished = refl; samples-open = refl; samples-finished = refl };
+  finishes = λ s b. record { result = refl; number = finished s (sized b); cells-open = refl; cells-finished = refl; samples-open = refl; samples-finished = refl };
+}
+
+-- the trace of a reader that keeps them is allowed
+pub traced : (R : Reader) → Keeps R → (rs : List (List ℕ)) (s : State) (b : Buffers) → Allowed s b rs (traceOf R s b rs)
+unfolding Allowed traceOf
+traced R k [] s b = k .finishes s b
+traced R k (r ∷ rs) s b = (k .steps s b r, traced R k rs (R .steps s b r .result .state) (R .steps s b r .left))
+
 pub run-allowed : (rs : List (List ℕ)) (s : State) (b : Buffers) → Allowed s b rs (run s b rs)
-unfolding Allowed run called
-run-allowed [] s b = record { result = refl; number = finished s (sized b); cells-open = refl; cells-finished = refl; samples-open = refl; samples-finished = refl }
-run-allowed (r ∷ rs) s b = (
-  record { result = refl; number = answered (input s b r); cells-open = refl; cells-finished = refl; samples-open = refl; samples-finished = refl },
-  run-allowed rs _ _,
-)
+run-allowed = traced defined defined-keeps
 
 -- "The state list" is kept, whatever is fed
 pub run-sound : (rs : List (List ℕ)) (s : State) (b : Buffers) → Sound s → Every Sound (states (run s b rs))
-unfolding Every states run called
+unfolding Every states traceOf called
 run-sound [] s b h = (end-sound s (sized b) h, tt)
 run-sound (r ∷ rs) s b h = let k = step-sound (input s b r) h in (k, run-sound rs _ _ k)

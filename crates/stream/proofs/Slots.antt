@@ -23,8 +23,10 @@ use Rattle.record.specs.Layout.{magBytes}
 use Rattle.record.specs.Contents.{recordOf}
 use Rattle.mag.specs.Samples.{samplesSize, range, sample, samples}
 use Rattle.state.specs.Major.{frameSamples, noMajor, into}
+use Rattle.state.specs.Keeping.{Shaped}
 use Rattle.state.specs.declared.major.Major.{Major}
-use Rattle.stream.specs.Lists.{Every, Linked}
+use Rattle.tables.specs.Every.{Every}
+use Rattle.stream.specs.Lists.{Linked}
 use Rattle.stream.specs.Running.{ClosedMajor}
 use Rattle.stream.specs.Sending.{realTime, Kept, reals}
 use Rattle.stream.specs.Cutting.{at, major, Beside}
@@ -185,6 +187,11 @@ unfolding Every majorFrom samplesFrom
 all-slotted [] n low m s b = tt
 all-slotted (f ∷ fs) n low m s b = (first-slotted f fs n low m s b, all-slotted fs n (slot f + 1) (majorWith f m) (samplesWith f s) (after f fs n low m s b))
 
+all-shaped : (fs : List Kept) (n low : ℕ) (m : Major) (s : List ℤ) → low ≤ 16 → Before n low m s fs → Shaped (majorFrom m fs)
+unfolding majorFrom
+all-shaped [] n low m s l b = record { ranges = b .ranges; words = b .words; mags = omega (arith, b .mags, pow-mono l) }
+all-shaped (f ∷ fs) n low m s l b = all-shaped fs n (slot f + 1) (majorWith f m) (samplesWith f s) (omega arith) (after f fs n low m s b)
+
 samples-length : (fs : List Kept) (s : List ℤ) → length s ≡ frameSamples → length (samplesFrom s fs) ≡ frameSamples
 unfolding samplesFrom
 samples-length [] s e = e
@@ -212,8 +219,9 @@ major-filled f fs l =
       samples = length-replicate {A = ℤ} frameSamples (pos 0);
     } in
     record {
-      slots = rw (slots-are g noMajor) (marks-count slot g 0 0 (pow-pos 0) r ∙ zero-add (length g));
+      held = rw (slots-are g noMajor) (marks-count slot g 0 0 (pow-pos 0) r ∙ zero-add (length g));
       mags = rw (mags-are g noMajor) (marks-count slot (reals g) 0 0 (pow-pos 0) (rising-reals slot g 0 r) ∙ zero-add (length (reals g)));
+      shaped = all-shaped g (major f) 0 noMajor noSamples (omega arith) b;
       size = samples-length g noSamples (b .samples);
       own = all-slotted g (major f) 0 noMajor noSamples b;
       no-slot = λ i h n. record {

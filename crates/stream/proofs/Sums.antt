@@ -54,4 +54,4 @@ module _ (gs : List (List Kept)) where
         (ap (λ (n : ℕ). samplesSize * n) reals-none) (λ g h. omega (arith, reals-length g h)) (λ g m f. ap (λ (n : ℕ). samplesSize * n) (f .mags)) gs os h
 
     pub slots-total : sum (λ m. slotsHeld (m .frame)) os ≡ length (flat gs)
-    slots-total = sum-is MajorFilled (λ m. slotsHeld (m .frame)) length refl length-append (λ g m f. f .slots) gs os h
+    slots-total = sum-is MajorFilled (λ m. slotsHeld (m .frame)) length refl length-append (λ g m f. f .held) gs os h

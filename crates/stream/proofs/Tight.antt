@@ -2,25 +2,26 @@
 -- Assumes nothing.
 use mathlib.Core.Path.{_≡_, refl, sym, ap, subst, subst⁻¹, _∙_}
 use mathlib.Core.Bool.{true, false, true≢false}
-use mathlib.Core.List.{List, [], _∷_, _++_}
+use mathlib.Core.List.{List, [], _∷_}
 use mathlib.Core.Logic.{_⊎_, inl, inr, ⊎-elim}
 use Prim.Native.Nat.{ℕ, zero, suc, _+_, _-_, _<_, _≤_}
 use native.Mathlib.Omega.{arith}
-use lib.ListN.{length}
 use Rattle.tables.specs.Marks.{bitSet}
 use Rattle.carriage.specs.Carriage.{types}
 use Rattle.state.specs.List.{fresh}
-use Rattle.stream.specs.Lists.{Every, Some, Pairwise, Neighbours, flat, Linked, Cut}
-use Rattle.stream.specs.Running.{Trace, run, ClosedAccumulation, accumulations}
-use Rattle.stream.specs.Sending.{next, Fate, kept, removed, Sends, fed, Refused, Kept, keptOf, reals}
-use Rattle.stream.specs.Cutting.{typeOf, lostBetween, Joined, Torn}
+use Rattle.tables.specs.Every.{Every}
+use Rattle.stream.specs.Lists.{Some, Pairwise, Neighbours}
+use Rattle.stream.specs.Running.{Trace, run, traceOf, ClosedAccumulation, accumulations}
+use Rattle.stream.specs.Sending.{next, Fate, kept, removed, Sends, fed, ExtraRefused, Stream, Kept, keptOf, reals, realUnspoiled}
+use Rattle.stream.specs.Cutting.{typeOf, lostBetween, tears, Joined, Parted}
 use Rattle.stream.specs.Filling.{Filled}
 use Rattle.stream.specs.Once.{Own}
 use Rattle.stream.specs.Tight.{TornBy, Tight}
 use Rattle.stream.proofs.Runs.{run-allowed}
 use Rattle.stream.proofs.Demand.{demand-3}
 use Rattle.stream.proofs.Once.{once-each}
-use Rattle.stream.proofs.Made.{lent, sized, made, five, six, real-five, real-six, other-filler, sent-five, sent-six, sent-filler}
+use Rattle.stream.proofs.Pairs.{Split, Whole, of-two}
+use Rattle.stream.proofs.Made.{lent, lent-sized, made, five, six, real-five, real-six, other-filler, sent-five, sent-six, sent-filler}
 
 neither : (P Q : ClosedAccumulation → Type 0) (xs : List ClosedAccumulation) → Every (λ a. P a → Q a → ⊥) xs → Some (λ a. P a × Q a) xs → ⊥
 unfolding Every Some
@@ -29,11 +30,13 @@ neither P Q (x ∷ xs) e (inl b) = e .0 (b .0) (b .1)
 neither P Q (x ∷ xs) e (inr s) = neither P Q xs (e .1) s
 
 -- "torn only where 36 or more counts weren't accepted"
-none-below : (n : ℕ) → n < 36 → TornBy n → ⊥
+none-below : (n : ℕ) → n < tears → TornBy n → ⊥
 none-below n h t =
-    let o = once-each (t .fates) (t .lent) (t .count) (t .serial) (t .sized) (t .sent) (run fresh (t .lent) (fed (t .fates))) (run-allowed (fed (t .fates)) fresh (t .lent)) (t .refused) in
-    ⊎-elim (λ (s : Some (λ a. Own (reals (keptOf (t .serial) 0 (t .fates))) (t .before) a × Own (reals (keptOf (t .serial) 0 (t .fates))) (t .after) a) (accumulations (run fresh (t .lent) (fed (t .fates))))). neither _ _ _ (t .apart) s)
-    (λ (s : 36 ≤ lostBetween (t .before) (t .after)). omega (arith, t .lost))
+    let rs = realUnspoiled (t .serial) (t .fates) in
+    let tr = run fresh (t .lent) (fed (t .fates)) in
+    let o = once-each (t .fates) (t .lent) (t .count) (t .serial) tr (t .stream) (run-allowed (fed (t .fates)) fresh (t .lent)) in
+    ⊎-elim (λ (s : Some (λ a. Own rs (t .before) a × Own rs (t .after) a) (accumulations tr)). neither (Own rs (t .before)) (Own rs (t .after)) (accumulations tr) (t .apart) s)
+    (λ (s : tears ≤ lostBetween (t .before) (t .after)). omega (arith, t .lost))
     (o .torn (t .before) (t .after) (t .neighbours) (t .one-round))
 
 -- n other records from count c on, none of them kept
@@ -56,8 +59,8 @@ unfolding lose keptOf
 lose-kept zero c k l xs = let e : l ≡ l + 0 = omega arith in ap (λ (m : ℕ). keptOf k m xs) e
 lose-kept (suc n) c k l xs = let e : l + 1 + n ≡ l + suc n = omega arith in ap (λ (j : ℕ). keptOf j (l + 1) (lose (c + 1) n xs)) (next-filler k c) ∙ lose-kept n (c + 1) k (l + 1) xs ∙ ap (λ (m : ℕ). keptOf k m xs) e
 
-lose-refused : (n c : ℕ) (xs : List Fate) (t : Trace) → Refused xs t → Refused (lose c n xs) t
-unfolding lose Refused
+lose-refused : (n c : ℕ) (xs : List Fate) (t : Trace) → ExtraRefused xs t → ExtraRefused (lose c n xs) t
+unfolding lose ExtraRefused
 lose-refused zero c xs t h = h
 lose-refused (suc n) c xs t h = lose-refused n (c + 1) xs t h
 
@@ -80,29 +83,13 @@ before = record { bytes = made 100 5; serial = 5; lost = 0 }
 after : Kept
 after = record { bytes = made 137 6; serial = 6; lost = 36 }
 
-are-kept : reals (keptOf 5 0 stream) ≡ before ∷ after ∷ []
+are-kept : realUnspoiled 5 stream ≡ before ∷ after ∷ []
 unfolding stream keptOf reals before after
 are-kept = rw (real-five 100, lose-kept 36 101 6 0 (kept (made 137 6) ∷ []), real-six 137)
 
-none-spoiled : Refused stream (run fresh lent (fed stream))
-unfolding stream Refused run fed
-none-spoiled = rw (lose-fed 36 101 (kept (made 137 6) ∷ [])) (lose-refused 36 101 (kept (made 137 6) ∷ []) _ tt)
-
--- two records that can't stand together stand each by itself
-heads : (x y p f : Kept) (xs : List Kept) → x ∷ y ∷ xs ≡ p ∷ f ∷ [] → (x ≡ p) × (y ≡ f)
-heads x y p f xs e = (cc, cc)
-
-by-themselves : (R S : Kept → Kept → Type 0) (gs : List (List Kept)) (p f : Kept) → (R p f → ⊥) → flat gs ≡ p ∷ f ∷ [] → Cut R S gs → gs ≡ (p ∷ []) ∷ (f ∷ []) ∷ []
-unfolding flat Cut Linked
-by-themselves R S [] p f n e c = let y : _≡_ {A = ℕ} 0 2 = ap length e in absurd (omega arith)
-by-themselves R S ([] ∷ gs) p f n e c = absurd c
-by-themselves R S ((x ∷ y ∷ xs) ∷ gs) p f n e c = let h = heads x y p f _ e in absurd (n (subst (λ (z : Kept). R z f) (h .0) (subst (R x) (h .1) (c .0 .0))))
-by-themselves R S ((x ∷ []) ∷ []) p f n e c = let y : _≡_ {A = ℕ} 1 2 = ap length e in absurd (omega arith)
-by-themselves R S ((x ∷ []) ∷ ([] ∷ gs)) p f n e c = absurd (c .2)
-by-themselves R S ((x ∷ []) ∷ ((y ∷ []) ∷ [])) p f n e c = let h = heads x y p f [] e in rw (h .0, h .1)
-by-themselves R S ((x ∷ []) ∷ ((y ∷ []) ∷ ([] ∷ gs))) p f n e c = absurd (c .2 .2)
-by-themselves R S ((x ∷ []) ∷ ((y ∷ []) ∷ ((z ∷ zs) ∷ gs))) p f n e c = let h : suc (suc (suc (length (zs ++ flat gs)))) ≡ 2 = ap length e in absurd (omega arith)
-by-themselves R S ((x ∷ []) ∷ ((y ∷ z ∷ zs) ∷ gs)) p f n e c = let h : suc (suc (suc (length (zs ++ flat gs)))) ≡ 2 = ap length e in absurd (omega arith)
+fed-stream : Stream 100 5 stream lent (run fresh lent (fed stream))
+unfolding stream ExtraRefused traceOf fed
+fed-stream = record { sent = sent; right = lent-sized; refused = rw (lose-fed 36 101 (kept (made 137 6) ∷ [])) (lose-refused 36 101 (kept (made 137 6) ∷ []) _ tt) }
 
 type-before : typeOf before ≡ 5
 unfolding before
@@ -132,26 +119,28 @@ apart rs (a ∷ b ∷ []) h = (
 )
 apart rs (a ∷ b ∷ c ∷ os) h = absurd (h .1 .1)
 
+stands-apart : Every (λ a. Own (realUnspoiled 5 stream) before a → Own (realUnspoiled 5 stream) after a → ⊥) (accumulations (run fresh lent (fed stream)))
+stands-apart =
+    let d = demand-3 stream lent 100 5 (run fresh lent (fed stream)) fed-stream (run-allowed (fed stream) fresh lent) in
+    ⊎-elim (λ (s : Split Joined Parted before after (d .parts)). apart (realUnspoiled 5 stream) _ (subst (λ (gs : List (List Kept)). Pairwise Filled gs (accumulations (run fresh lent (fed stream)))) (s .is) (d .parts-out)))
+    (λ (s : Whole Joined Parted before after (d .parts)). absurd (far (s .related)))
+    (of-two Joined Parted before after (d .parts) (d .parts-whole ∙ are-kept) (d .parts-cut))
+
 pub tight : Tight
 unfolding Neighbours
 tight = record {
-  torn-36 = record {
+  torn-so = record {
     fates = stream;
     count = 100;
     serial = 5;
-    sent = sent;
     lent = lent;
-    sized = sized;
-    refused = none-spoiled;
+    stream = fed-stream;
     before = before;
     after = after;
     neighbours = subst⁻¹ (Neighbours before after) are-kept (inl (refl, refl));
     one-round = unfold before after in refl;
     lost = unfold before after in refl;
-    apart =
-        let d = demand-3 stream lent 100 5 sized sent (run fresh lent (fed stream)) (run-allowed (fed stream) fresh lent) none-spoiled in
-        let e = by-themselves Joined Torn (d .rounds) before after far (d .rounds-whole ∙ are-kept) (d .rounds-cut) in
-        apart (reals (keptOf 5 0 stream)) _ (subst (λ (gs : List (List Kept)). Pairwise Filled gs (accumulations (run fresh lent (fed stream)))) e (d .rounds-out));
+    apart = stands-apart;
   };
   none-below = none-below;
 }

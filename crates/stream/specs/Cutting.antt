@@ -20,34 +20,39 @@ typeOf f = recordOf (f .bytes) .«frame_type»
 abbrev pub round : Kept → ℕ
 round f = f .serial / types
 
--- the counts strictly between two kept records that were not accepted: each count between them was sent once, and those kept
--- were accepted
+-- how many counts between that of p and that of f, kept later, weren't accepted: each count was sent once, those kept were
+-- accepted, and the lost ones only grow (`between` in proofs/Chains.antt: neighbours are so many counts apart, and one)
 abbrev pub lostBetween : Kept → Kept → ℕ
 lostBetween p f = f .lost - p .lost
 
--- neighbouring real-time records in one accumulation that is handed out: of one that was sent, and near enough
+-- neighbouring real-time records in one accumulation that is handed out: of one round, types rising, no more lost between them
+-- than the joining rule allows
 pub record Joined (p f : Kept) : Type 0 where
   pub same : round f ≡ round p
   pub rising : typeOf p < typeOf f
   pub near : lostBetween p f ≤ most (typeOf p) (typeOf f)
 
--- and in two: "a sent one is torn in two only where 36 or more counts weren't accepted between two neighbouring accepted
--- real-time frames"
-abbrev pub Torn : Kept → Kept → Type 0
-Torn p f = round p ≡ round f → 36 ≤ lostBetween p f
+-- "36 or more counts"
+abbrev pub tears : ℕ
+tears = 36
 
-abbrev pub Accumulations : List (List Kept) → Type 0
-Accumulations gs = Cut Joined Torn gs
+-- and in two: of two rounds, or of one that is torn here: "a sent one is torn in two only where 36 or more counts weren't
+-- accepted between two neighbouring accepted real-time frames"
+abbrev pub Parted : Kept → Kept → Type 0
+Parted p f = round p ≡ round f → tears ≤ lostBetween p f
 
--- neighbouring records of one major frame, and of two
+abbrev pub AccumulationCut : List (List Kept) → Type 0
+AccumulationCut gs = Cut Joined Parted gs
+
 abbrev pub major : Kept → ℕ
 major f = majorNumber (at f)
 
+-- neighbouring records of one major frame, and of two
 abbrev pub Beside : Kept → Kept → Type 0
 Beside p f = (major f ≡ major p) × (at p < at f)
 
 abbrev pub Behind : Kept → Kept → Type 0
 Behind p f = major p < major f
 
-abbrev pub MajorFrames : List (List Kept) → Type 0
-MajorFrames gs = Cut Beside Behind gs
+abbrev pub MajorCut : List (List Kept) → Type 0
+MajorCut gs = Cut Beside Behind gs

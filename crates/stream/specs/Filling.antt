@@ -7,14 +7,15 @@ use mathlib.Core.Path.{_≡_}
 use lib.Count.{ones}
 use lib.IntN.{pos}
 use lib.ListN.{length, getD}
+use Rattle.tables.specs.Every.{Every}
 use Rattle.tables.specs.Marks.{bitSet}
 use Rattle.record.specs.Layout.{packetBytes, frameCode, magBytes, scienceBytes}
 use Rattle.record.specs.Contents.{recordOf}
 use Rattle.mag.specs.Samples.{samplesSize, range, sample}
 use Rattle.carriage.specs.Carriage.{types, scienceSize, place}
 use Rattle.cells.specs.Laying.{cellsSize, topPair, pairAt}
-use Rattle.state.specs.Major.{frameSamples, slotOf}
-use Rattle.stream.specs.Lists.{Every}
+use Rattle.state.specs.Major.{slots, frameSamples, slotOf}
+use Rattle.state.specs.Keeping.{Shaped}
 use Rattle.stream.specs.Running.{ClosedAccumulation, ClosedMajor}
 use Rattle.stream.specs.Sending.{realTime, Kept, reals}
 use Rattle.stream.specs.Cutting.{at, typeOf, major}
@@ -23,7 +24,8 @@ use Rattle.stream.specs.Cutting.{at, typeOf, major}
 abbrev pub packet : Kept → List ℕ
 packet f = packetBytes (f .bytes)
 
--- "each of its 83 science bytes in ... its own [cell]", and its bit pair
+-- "each of its 83 science bytes in exactly one cell, its own", and its bit pair in its place: byte k of type u stands in the cell
+-- place u k, no two bytes of any types in one cell, and no cell left out (`place-once` and `once` in carriage/EachCell)
 pub record Stands (f : Kept) (a : ClosedAccumulation) : Type 0 where
   pub held : bitSet (a .report .held) (typeOf f) ≡ true
   pub science : (k : ℕ) → k < scienceSize → getD (a .cells) (place (typeOf f) k) 0 ≡ getD (scienceBytes (packet f)) k 0
@@ -77,9 +79,10 @@ pub record NoMag (i : ℕ) (m : ClosedMajor) : Type 0 where
 
 -- the major frame that holds just these records
 pub record MajorFilled (g : List Kept) (m : ClosedMajor) : Type 0 where
-  pub slots : ones (m .frame .slots) ≡ length g
+  pub held : ones (m .frame .slots) ≡ length g
   pub mags : ones (m .frame .«mag_slots») ≡ length (reals g)
+  pub shaped : Shaped (m .frame)
   pub size : length (m .samples) ≡ frameSamples
   pub own : Every (λ f. Slotted f m) g
-  pub no-slot : (i : ℕ) → i < 16 → Every (λ f. slot f ≡ i → ⊥) g → NoSlot i m
-  pub no-mag : (i : ℕ) → i < 16 → Every (λ f. slot f ≡ i → ⊥) (reals g) → NoMag i m
+  pub no-slot : (i : ℕ) → i < slots → Every (λ f. slot f ≡ i → ⊥) g → NoSlot i m
+  pub no-mag : (i : ℕ) → i < slots → Every (λ f. slot f ≡ i → ⊥) (reals g) → NoMag i m

@@ -5,5 +5,6 @@ pub mod Cutting
 pub mod Filling
 pub mod Demand
 pub mod Once
+pub mod Law
 pub mod Tight
 pub mod Readers

@@ -4,16 +4,17 @@ use Prim.Native.Nat.{ℕ, _+_}
 use mathlib.Core.List.{List, [], _∷_, _++_}
 use mathlib.Core.Logic.{_⊎_}
 use mathlib.Core.Path.{_≡_}
-
--- each element has it
-unfoldable pub Every : {A : Type 0} → (A → Type 0) → List A → Type 0
-Every P [] = Unit {0}
-Every P (x ∷ xs) = P x × Every P xs
+use Rattle.tables.specs.Every.{Every}
 
 -- some element has it
 unfoldable pub Some : {A : Type 0} → (A → Type 0) → List A → Type 0
 Some P [] = ⊥
 Some P (x ∷ xs) = P x ⊎ Some P xs
+
+-- exactly one element has it
+unfoldable pub ExactlyOne : {A : Type 0} → (A → Type 0) → List A → Type 0
+ExactlyOne P [] = ⊥
+ExactlyOne P (x ∷ xs) = (P x × Every (λ y. P y → ⊥) xs) ⊎ ((P x → ⊥) × ExactlyOne P xs)
 
 -- as many of the one as of the other, each with its own
 unfoldable pub Pairwise : {A B : Type 0} → (A → B → Type 0) → List A → List B → Type 0
@@ -22,12 +23,7 @@ Pairwise P [] (y ∷ ys) = ⊥
 Pairwise P (x ∷ xs) [] = ⊥
 Pairwise P (x ∷ xs) (y ∷ ys) = P x y × Pairwise P xs ys
 
--- exactly one element has it
-unfoldable pub ExactlyOne : {A : Type 0} → (A → Type 0) → List A → Type 0
-ExactlyOne P [] = ⊥
-ExactlyOne P (x ∷ xs) = (P x × Every (λ y. P y → ⊥) xs) ⊎ ((P x → ⊥) × ExactlyOne P xs)
-
--- two elements, one right behind the other
+-- f right behind p
 unfoldable pub Neighbours : {A : Type 0} → A → A → List A → Type 0
 Neighbours p f [] = ⊥
 Neighbours p f (x ∷ []) = ⊥
@@ -42,16 +38,17 @@ unfoldable pub sum : {A : Type 0} → (A → ℕ) → List A → ℕ
 sum f [] = 0
 sum f (x ∷ xs) = f x + sum f xs
 
--- neighbours are related, from p on; and the last one
+-- p and those behind it: neighbours are related
 unfoldable pub Linked : {A : Type 0} → (A → A → Type 0) → A → List A → Type 0
 Linked R p [] = Unit {0}
 Linked R p (x ∷ xs) = R p x × Linked R x xs
 
+-- the last of them
 unfoldable pub final : {A : Type 0} → A → List A → A
 final p [] = p
 final p (x ∷ xs) = final x xs
 
--- the first of the lists begins with one that p is related to
+-- the first of the lists, if there is one, begins with an element that p is related to
 unfoldable pub Across : {A : Type 0} → (A → A → Type 0) → A → List (List A) → Type 0
 Across R p [] = Unit {0}
 Across R p ([] ∷ gs) = ⊥

@@ -1,45 +1,68 @@
--- Demand 3 read off what is handed out alone: each kept record has exactly one accumulation and one major frame of its own, and
--- stands there in its own place; all else is 0.
+-- Demand 3, cell by cell: each kept record has exactly one accumulation and one major frame of its own, and stands there in its
+-- own place; what is handed out comes from such records, of one round, and is 0 elsewhere.
 -- Assumes nothing.
 use Prim.Native.Nat.{ℕ, _<_, _≤_}
 use mathlib.Core.Bool.{true, false}
 use mathlib.Core.List.{List}
 use mathlib.Core.Logic.{_⊎_}
 use mathlib.Core.Path.{_≡_}
+use lib.ListN.{getD}
+use Rattle.tables.specs.Every.{Every}
 use Rattle.tables.specs.Marks.{bitSet}
-use Rattle.carriage.specs.Carriage.{types}
-use Rattle.stream.specs.Lists.{Every, Some, ExactlyOne, Neighbours}
+use Rattle.record.specs.Layout.{frameCode, scienceBytes}
+use Rattle.carriage.specs.Carriage.{types, cells, carrier, byteOf}
+use Rattle.cells.specs.Laying.{topPair, pairAt}
+use Rattle.cells.specs.Raw.{holdsCell}
+use Rattle.state.specs.Major.{slots}
+use Rattle.stream.specs.Lists.{Some, ExactlyOne, Neighbours}
 use Rattle.stream.specs.Running.{Trace, ClosedAccumulation, ClosedMajor, accumulations, majors}
-use Rattle.stream.specs.Sending.{Fate, Kept, keptOf, reals}
-use Rattle.stream.specs.Cutting.{at, typeOf, round, lostBetween, major}
-use Rattle.stream.specs.Filling.{Stands, Missing, slot, Slotted}
+use Rattle.stream.specs.Sending.{Fate, Kept, reals, unspoiled, realUnspoiled}
+use Rattle.stream.specs.Cutting.{at, typeOf, round, lostBetween, tears, major}
+use Rattle.stream.specs.Filling.{packet, Stands, slot, Sampled, Slotted, NoSlot, NoMag}
 
--- the accumulation is of the round of f: its first count is that of one of the kept real-time records fs, of the same round
-abbrev pub OfRound : List Kept → Kept → ClosedAccumulation → Type 0
-OfRound fs f a = Some (λ h. (at h ≡ a .report .first) × (round h ≡ round f)) fs
+-- the accumulation is of round n: its first count is that of one of the kept real-time records fs, of that round
+abbrev pub OfRound : List Kept → ℕ → ClosedAccumulation → Type 0
+OfRound fs n a = Some (λ h. (at h ≡ a .report .first) × (round h ≡ n)) fs
 
--- and it holds the type of f
+-- the accumulation of the record f: it holds the type of f, and is of its round
 abbrev pub Own : List Kept → Kept → ClosedAccumulation → Type 0
-Own fs f a = (bitSet (a .report .held) (typeOf f) ≡ true) × OfRound fs f a
+Own fs f a = (bitSet (a .report .held) (typeOf f) ≡ true) × OfRound fs (round f) a
 
--- every type that is held is that of one of the records fs, which stands there; every other is 0
+-- all that an accumulation holds is of the kept real-time records fs, of one round: each cell whose frame is held is that
+-- record's science byte, each pair that record's pair; the other cells and pairs are 0
 pub record Unmixed (fs : List Kept) (a : ClosedAccumulation) : Type 0 where
-  pub held : (u : ℕ) → u < types → bitSet (a .report .held) u ≡ true → Some (λ f. (typeOf f ≡ u) × Own fs f a × Stands f a) fs
-  pub unheld : (u : ℕ) → u < types → bitSet (a .report .held) u ≡ false → Missing u a
+  pub of : ℕ
+  pub first : OfRound fs of a
+  pub cell : (p : ℕ) → p < cells → holdsCell (a .report .held) p ≡ true
+      → Some (λ f. (typeOf f ≡ carrier p) × (round f ≡ of) × (getD (a .cells) p 0 ≡ getD (scienceBytes (packet f)) (byteOf p) 0)) fs
+  pub no-cell : (p : ℕ) → p < cells → holdsCell (a .report .held) p ≡ false → getD (a .cells) p 0 ≡ 0
+  pub pair : (u : ℕ) → u < types → bitSet (a .report .held) u ≡ true
+      → Some (λ f. (typeOf f ≡ u) × (round f ≡ of) × (pairAt (a .cells) u ≡ topPair (frameCode (packet f)))) fs
+  pub no-pair : (u : ℕ) → u < types → bitSet (a .report .held) u ≡ false → pairAt (a .cells) u ≡ 0
 
--- the major frame has the major number of f, and holds its slot
+-- the major frame of the record f: it has its major number, and holds its slot
 abbrev pub OwnMajor : Kept → ClosedMajor → Type 0
 OwnMajor f m = (m .frame .number ≡ major f) × (bitSet (m .frame .slots) (slot f) ≡ true)
 
-pub record Once (k : ℕ) (xs : List Fate) (t : Trace) : Type 0 where
+-- all that a major frame holds is of the kept records fs, of its number; the rest is 0
+pub record UnmixedMajor (fs : List Kept) (m : ClosedMajor) : Type 0 where
+  pub held : (i : ℕ) → i < slots → bitSet (m .frame .slots) i ≡ true → Some (λ f. (slot f ≡ i) × Slotted f m) fs
+  pub unheld : (i : ℕ) → i < slots → bitSet (m .frame .slots) i ≡ false → NoSlot i m
+  pub marked : (i : ℕ) → i < slots → bitSet (m .frame .«mag_slots») i ≡ true → Some (λ f. (slot f ≡ i) × (major f ≡ m .frame .number) × Sampled f m) (reals fs)
+  pub unmarked : (i : ℕ) → i < slots → bitSet (m .frame .«mag_slots») i ≡ false → NoMag i m
+
+-- proved as `once-each` in proofs/Once.antt
+pub record OnceEach (k : ℕ) (xs : List Fate) (t : Trace) : Type 0 where
   -- "every real-time frame left unspoiled has each of its 83 science bytes in exactly one cell, its own"
-  pub one : Every (λ f. ExactlyOne (Own (reals (keptOf k 0 xs)) f) (accumulations t)) (reals (keptOf k 0 xs))
-  pub there : Every (λ f. Every (λ a. Own (reals (keptOf k 0 xs)) f a → Stands f a) (accumulations t)) (reals (keptOf k 0 xs))
+  pub one : Every (λ f. ExactlyOne (Own (realUnspoiled k xs) f) (accumulations t)) (realUnspoiled k xs)
+  pub there : Every (λ f. Every (λ a. Own (realUnspoiled k xs) f a → Stands f a) (accumulations t)) (realUnspoiled k xs)
   -- "no accumulation handed out holds bytes of two that were sent"
-  pub unmixed : Every (Unmixed (reals (keptOf k 0 xs))) (accumulations t)
-  -- "a sent one is torn in two only where 36 or more counts weren't accepted between two neighbouring accepted real-time frames"
-  pub torn : (p f : Kept) → Neighbours p f (reals (keptOf k 0 xs)) → round p ≡ round f
-      → Some (λ a. Own (reals (keptOf k 0 xs)) p a × Own (reals (keptOf k 0 xs)) f a) (accumulations t) ⊎ (36 ≤ lostBetween p f)
+  pub unmixed : Every (Unmixed (realUnspoiled k xs)) (accumulations t)
+  -- "a sent one is torn in two only where 36 or more counts weren't accepted between two neighbouring accepted real-time frames":
+  -- some accumulation is both's, or so many weren't
+  pub torn : (p f : Kept) → Neighbours p f (realUnspoiled k xs) → round p ≡ round f
+      → Some (λ a. Own (realUnspoiled k xs) p a × Own (realUnspoiled k xs) f a) (accumulations t) ⊎ (tears ≤ lostBetween p f)
   -- and every kept record in its major frame and slot
-  pub one-major : Every (λ f. ExactlyOne (OwnMajor f) (majors t)) (keptOf k 0 xs)
-  pub there-major : Every (λ f. Every (λ m. OwnMajor f m → Slotted f m) (majors t)) (keptOf k 0 xs)
+  pub one-major : Every (λ f. ExactlyOne (OwnMajor f) (majors t)) (unspoiled k xs)
+  pub there-major : Every (λ f. Every (λ m. OwnMajor f m → Slotted f m) (majors t)) (unspoiled k xs)
+  pub unmixed-major : Every (UnmixedMajor (unspoiled k xs)) (majors t)

@@ -1,12 +1,9 @@
--- The reader over a list of records: a step for each, then finish once (demand 3).
+-- A reader over a list of records: a step for each, then finish once (demand 3).
 -- Assumes nothing.
 use Prim.Native.Nat.{ℕ}
 use mathlib.Core.Bool.{cond}
 use mathlib.Core.List.{List, [], _∷_, _++_}
-use mathlib.Core.Path.{_≡_}
 use lib.IntN.{ℤ}
-use lib.ListN.{length}
-use Rattle.cells.specs.Laying.{cellsSize}
 use Rattle.state.specs.Deciding.{decidedOf}
 use Rattle.state.specs.Ending.{endedOf}
 use Rattle.state.specs.declared.State.{State}
@@ -15,15 +12,7 @@ use Rattle.state.specs.declared.deciding.Stepped.{Stepped}
 use Rattle.state.specs.declared.ending.Finished.{Finished}
 use Rattle.state.specs.declared.major.Major.{Major}
 use Rattle.state.specs.declared.major.MajorReport.{MajorReport}
-use Rattle.state.specs.Major.{frameSamples}
 use Rattle.reader.specs.Steps.{Buffers, sized, input, stepped, ended, StepIs, FinishIs}
-
--- "buffers of the right sizes"
-pub record Sized (b : Buffers) : Type 0 where
-  pub cells-open : length (b .openCells) ≡ cellsSize
-  pub cells-finished : length (b .finishedCells) ≡ cellsSize
-  pub samples-open : length (b .openSamples) ≡ frameSamples
-  pub samples-finished : length (b .finishedSamples) ≡ frameSamples
 
 -- a call of step: what it answers, and the four buffers as it leaves them
 pub record Call : Type 0 where
@@ -35,30 +24,47 @@ pub record End : Type 0 where
   pub result : Finished
   pub left : Buffers
 
+-- whatever answers a step and a finish
+pub record Reader : Type 0 where
+  pub steps : State → Buffers → List ℕ → Call
+  pub finishes : State → Buffers → End
+
 -- every call, in order
 pub data Trace : Type 0 where
   step : Call → Trace → Trace
   finish : End → Trace
 
+-- each record in its turn, "each [buffer] handed on as the last call left it, and finish once"
+unfoldable pub traceOf : Reader → State → Buffers → List (List ℕ) → Trace
+traceOf R s b [] = finish (R .finishes s b)
+traceOf R s b (r ∷ rs) = step (R .steps s b r) (traceOf R (R .steps s b r .result .state) (R .steps s b r .left) rs)
+
+-- The reader of the definitions that the promises of `reader::step` and `reader::finish` cite.
 unfoldable pub called : State → Buffers → List ℕ → Call
 called s b r = record { result = decidedOf (input s b r) .stepped; left = stepped s b r }
 
--- each record in its turn, "each [buffer] handed on as the last call left it, and finish once"
-unfoldable pub run : State → Buffers → List (List ℕ) → Trace
-run s b [] = finish (record { result = endedOf s (sized b) .finished; left = ended s b })
-run s b (r ∷ rs) = step (called s b r) (run (called s b r .result .state) (called s b r .left) rs)
+abbrev pub defined : Reader
+defined = record { steps = called; finishes = λ s b. record { result = endedOf s (sized b) .finished; left = ended s b } }
 
--- What the functions' own promises allow: `run` alone (`only-run`, `run-allowed` in proofs/Runs.antt).
-unfoldable pub Allowed : State → Buffers → List (List ℕ) → Trace → Type 0
-Allowed s b [] (finish e) =
-    FinishIs s (b .openCells) (b .finishedCells) (b .openSamples) (b .finishedSamples)
-    (e .result) (e .left .openCells) (e .left .finishedCells) (e .left .openSamples) (e .left .finishedSamples)
-Allowed s b [] (step c t) = ⊥
-Allowed s b (r ∷ rs) (finish e) = ⊥
-Allowed s b (r ∷ rs) (step c t) =
+abbrev pub run : State → Buffers → List (List ℕ) → Trace
+run s b rs = traceOf defined s b rs
+
+-- What the promises themselves allow at each call. It is `run` and nothing else: `only-run`, `run-allowed` in proofs/Runs.antt.
+abbrev pub StepAllowed : State → Buffers → List ℕ → Call → Type 0
+StepAllowed s b r c =
     StepIs s (b .openCells) (b .finishedCells) (b .openSamples) (b .finishedSamples) r
     (c .result) (c .left .openCells) (c .left .finishedCells) (c .left .openSamples) (c .left .finishedSamples)
-    × Allowed (c .result .state) (c .left) rs t
+
+abbrev pub EndAllowed : State → Buffers → End → Type 0
+EndAllowed s b e =
+    FinishIs s (b .openCells) (b .finishedCells) (b .openSamples) (b .finishedSamples)
+    (e .result) (e .left .openCells) (e .left .finishedCells) (e .left .openSamples) (e .left .finishedSamples)
+
+unfoldable pub Allowed : State → Buffers → List (List ℕ) → Trace → Type 0
+Allowed s b [] (finish e) = EndAllowed s b e
+Allowed s b [] (step c t) = ⊥
+Allowed s b (r ∷ rs) (finish e) = ⊥
+Allowed s b (r ∷ rs) (step c t) = StepAllowed s b r c × Allowed (c .result .state) (c .left) rs t
 
 -- What is handed out, read off the trace: a report that something closed, with the finished buffer as it then stands.
 pub record ClosedAccumulation : Type 0 where

@@ -10,23 +10,24 @@ use Rattle.record.specs.Contents.{recordOf}
 use Rattle.carriage.specs.Carriage.{types}
 use Rattle.state.specs.Deciding.{isRealTime, answerNumber}
 use Rattle.state.specs.Ending.{endingNumber}
+use Rattle.reader.specs.Steps.{Buffers, sized}
 use Rattle.stream.specs.Running.{Trace, step, finish}
 
 abbrev pub realTime : List ℕ → Bool
 realTime r = isRealTime (recordOf r .kind)
 
--- the k-th real-time record has type k mod 36
-abbrev pub next : ℕ → List ℕ → ℕ
-next k r = cond (realTime r) (k + 1) k
-
 -- "records that pass rules 2 to 11: counts rising by one without wrapping, real-time types 0 to 35 in order round and round,
--- defined other types anywhere between": bytes sent at count c, with real-time number k next. A count is 24 bits of the record,
--- so that a count that rises can't wrap; rule 11 leaves defined types alone
+-- defined other types anywhere between": the bytes r, sent at count c, the next real-time record having number k and so type k
+-- mod 36. A count is 24 bits of the record, so one that rises can't have wrapped; rule 11 lets only defined types pass
 pub record SentAt (c k : ℕ) (r : List ℕ) : Type 0 where
   pub bytes : Bytes r
   pub passes : broken r ≡ 0
   pub counted : recordOf r .count ≡ c
   pub typed : realTime r ≡ true → recordOf r .«frame_type» ≡ k % types
+
+-- the number of the next real-time record, once r was sent
+abbrev pub next : ℕ → List ℕ → ℕ
+next k r = cond (realTime r) (k + 1) k
 
 -- "Remove any, or spoil them so that each is refused"
 pub data Fate : Type 0 where
@@ -37,16 +38,16 @@ pub data Fate : Type 0 where
   -- fed, and never sent
   extra : List ℕ → Fate
 
--- a record that was sent and, in its place, what is fed instead
-abbrev pub spoiled : List ℕ → List ℕ → List Fate → List Fate
-spoiled r x xs = removed r ∷ extra x ∷ xs
-
--- what was sent, from count c and real-time number k on
+-- what was sent, from count c and real-time number k on: the first real-time type is any
 unfoldable pub Sends : ℕ → ℕ → List Fate → Type 0
 Sends c k [] = Unit {0}
 Sends c k (kept r ∷ xs) = SentAt c k r × Sends (c + 1) (next k r) xs
 Sends c k (removed r ∷ xs) = SentAt c k r × Sends (c + 1) (next k r) xs
 Sends c k (extra x ∷ xs) = Sends c k xs
+
+-- the record r spoiled, so that x is fed in its place
+abbrev pub spoiled : List ℕ → List ℕ → List Fate → List Fate
+spoiled r x xs = removed r ∷ extra x ∷ xs
 
 -- "feed what remains in order"
 unfoldable pub fed : List Fate → List (List ℕ)
@@ -56,32 +57,45 @@ fed (removed r ∷ xs) = fed xs
 fed (extra x ∷ xs) = x ∷ fed xs
 
 -- what was never sent is refused in its turn
-unfoldable pub Refused : List Fate → Trace → Type 0
-Refused [] t = Unit {0}
-Refused (kept r ∷ xs) (step c t) = Refused xs t
-Refused (kept r ∷ xs) (finish e) = ⊥
-Refused (removed r ∷ xs) t = Refused xs t
-Refused (extra x ∷ xs) (step c t) = (0 < answerNumber (c .result .answer)) × Refused xs t
-Refused (extra x ∷ xs) (finish e) = ⊥
+unfoldable pub ExtraRefused : List Fate → Trace → Type 0
+ExtraRefused [] t = Unit {0}
+ExtraRefused (kept r ∷ xs) (step c t) = ExtraRefused xs t
+ExtraRefused (kept r ∷ xs) (finish e) = ⊥
+ExtraRefused (removed r ∷ xs) t = ExtraRefused xs t
+ExtraRefused (extra x ∷ xs) (step c t) = (0 < answerNumber (c .result .answer)) × ExtraRefused xs t
+ExtraRefused (extra x ∷ xs) (finish e) = ⊥
+
+-- so it is, whatever it meets, where it fails one of rules 2 to 11 (`spoils` in proofs/Spoiling.antt)
+unfoldable pub ExtraBroken : List Fate → Type 0
+ExtraBroken [] = Unit {0}
+ExtraBroken (kept r ∷ xs) = ExtraBroken xs
+ExtraBroken (removed r ∷ xs) = ExtraBroken xs
+ExtraBroken (extra x ∷ xs) = (0 < broken x) × ExtraBroken xs
+
+-- a sent stream with its fates, buffers "of the right sizes" with any content, and a trace of what was fed
+pub record Stream (c k : ℕ) (xs : List Fate) (b : Buffers) (t : Trace) : Type 0 where
+  pub sent : Sends c k xs
+  pub right : sized b ≡ true
+  pub refused : ExtraRefused xs t
 
 -- what was kept is accepted in its turn, and finish is done
-unfoldable pub Accepted : List Fate → Trace → Type 0
-Accepted [] (finish e) = endingNumber (e .result .ending) ≡ 0
-Accepted [] (step c t) = ⊥
-Accepted (kept r ∷ xs) (step c t) = (answerNumber (c .result .answer) ≡ 0) × Accepted xs t
-Accepted (kept r ∷ xs) (finish e) = ⊥
-Accepted (removed r ∷ xs) t = Accepted xs t
-Accepted (extra x ∷ xs) (step c t) = Accepted xs t
-Accepted (extra x ∷ xs) (finish e) = ⊥
+unfoldable pub KeptAccepted : List Fate → Trace → Type 0
+KeptAccepted [] (finish e) = endingNumber (e .result .ending) ≡ 0
+KeptAccepted [] (step c t) = ⊥
+KeptAccepted (kept r ∷ xs) (step c t) = (answerNumber (c .result .answer) ≡ 0) × KeptAccepted xs t
+KeptAccepted (kept r ∷ xs) (finish e) = ⊥
+KeptAccepted (removed r ∷ xs) t = KeptAccepted xs t
+KeptAccepted (extra x ∷ xs) (step c t) = KeptAccepted xs t
+KeptAccepted (extra x ∷ xs) (finish e) = ⊥
 
--- A kept record and its place: how many real-time ones were sent before it, on from number k, and how many sent before it were
--- not kept.
+-- A kept record and its place: its real-time number (of an other record, that of the next real-time one), and how many sent
+-- before it were not kept.
 pub record Kept : Type 0 where
   pub bytes : List ℕ
   pub serial : ℕ
   pub lost : ℕ
 
--- those kept, in order
+-- those kept, in order, with real-time number k next and l lost so far
 unfoldable pub keptOf : ℕ → ℕ → List Fate → List Kept
 keptOf k l [] = []
 keptOf k l (kept r ∷ xs) = record { bytes = r; serial = k; lost = l } ∷ keptOf (next k r) l xs
@@ -92,3 +106,10 @@ keptOf k l (extra x ∷ xs) = keptOf k l xs
 unfoldable pub reals : List Kept → List Kept
 reals [] = []
 reals (x ∷ xs) = cond (realTime (x .bytes)) (x ∷ reals xs) (reals xs)
+
+-- the records, and "the real-time frames left unspoiled"
+abbrev pub unspoiled : ℕ → List Fate → List Kept
+unspoiled k xs = keptOf k 0 xs
+
+abbrev pub realUnspoiled : ℕ → List Fate → List Kept
+realUnspoiled k xs = reals (unspoiled k xs)

@@ -1,6 +1,5 @@
 -- `state::fresh` meets its contract.
 -- Assumes nothing.
-use Rattle.state.specs.List.{fresh}
 use borrow.Author.Needs.{needs}
 use Rattle.state.proofs.fresh.Statement.{statement}
 use Rattle.state.proofs.fresh.Tie as tie

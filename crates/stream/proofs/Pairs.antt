@@ -1,0 +1,40 @@
+-- A cutting of two records: each by itself, or both together.
+-- Assumes nothing.
+use mathlib.Core.Path.{_≡_, ap, subst}
+use mathlib.Core.List.{List, [], _∷_, _++_}
+use mathlib.Core.Logic.{_⊎_, inl, inr}
+use Prim.Native.Nat.{ℕ, suc}
+use native.Mathlib.Omega.{arith}
+use lib.ListN.{length}
+use Rattle.stream.specs.Lists.{flat, Linked, final, Across, Cut}
+use Rattle.stream.specs.Sending.{Kept}
+
+heads : (x y p f : Kept) (xs : List Kept) → x ∷ y ∷ xs ≡ p ∷ f ∷ [] → (x ≡ p) × (y ≡ f)
+heads x y p f xs e = (cc, cc)
+
+module _ (R S : Kept → Kept → Type 0) (p f : Kept) where
+  pub record Split (gs : List (List Kept)) : Type 0 where
+    pub is : gs ≡ (p ∷ []) ∷ (f ∷ []) ∷ []
+    pub related : S p f
+
+  pub record Whole (gs : List (List Kept)) : Type 0 where
+    pub is : gs ≡ (p ∷ f ∷ []) ∷ []
+    pub related : R p f
+
+  long : (xs : List Kept) → suc (suc (suc (length xs))) ≡ 2 → ⊥
+  long xs e = omega arith
+
+  pub of-two : (gs : List (List Kept)) → flat gs ≡ p ∷ f ∷ [] → Cut R S gs → Split gs ⊎ Whole gs
+  unfolding flat Cut Linked Across final
+  of-two [] e c = let y : _≡_ {A = ℕ} 0 2 = ap length e in absurd (omega arith)
+  of-two ([] ∷ gs) e c = absurd c
+  of-two ((x ∷ []) ∷ []) e c = let y : _≡_ {A = ℕ} 1 2 = ap length e in absurd (omega arith)
+  of-two ((x ∷ []) ∷ ([] ∷ gs)) e c = absurd (c .2)
+  of-two ((x ∷ []) ∷ ((y ∷ []) ∷ [])) e c = let h = heads x y p f [] e in inl (record { is = rw (h .0, h .1); related = subst (λ (z : Kept). S z f) (h .0) (subst (S x) (h .1) (c .1)) })
+  of-two ((x ∷ []) ∷ ((y ∷ []) ∷ ([] ∷ gs))) e c = absurd (c .2 .2)
+  of-two ((x ∷ []) ∷ ((y ∷ []) ∷ ((z ∷ zs) ∷ gs))) e c = absurd (long (zs ++ flat gs) (ap length e))
+  of-two ((x ∷ []) ∷ ((y ∷ z ∷ zs) ∷ gs)) e c = absurd (long (zs ++ flat gs) (ap length e))
+  of-two ((x ∷ y ∷ []) ∷ []) e c = let h = heads x y p f [] e in inr (record { is = rw (h .0, h .1); related = subst (λ (z : Kept). R z f) (h .0) (subst (R x) (h .1) (c .0 .0)) })
+  of-two ((x ∷ y ∷ []) ∷ ([] ∷ gs)) e c = absurd (c .2)
+  of-two ((x ∷ y ∷ []) ∷ ((z ∷ zs) ∷ gs)) e c = absurd (long (zs ++ flat gs) (ap length e))
+  of-two ((x ∷ y ∷ z ∷ zs) ∷ gs) e c = absurd (long (zs ++ flat gs) (ap length e))

@@ -1,0 +1,26 @@
+-- Demand 3 as a law: for every start, length and pattern of loss, and whatever meets the promises of step and finish.
+-- Assumes nothing.
+use Prim.Native.Nat.{ℕ}
+use mathlib.Core.List.{List}
+use Rattle.state.specs.List.{fresh}
+use Rattle.reader.specs.Steps.{Buffers}
+use Rattle.stream.specs.Running.{Reader, Trace, traceOf, StepAllowed, EndAllowed, Allowed}
+use Rattle.stream.specs.Sending.{Fate, fed, Stream}
+use Rattle.stream.specs.Demand.{Demand3}
+use Rattle.stream.specs.Once.{OnceEach}
+use Rattle.state.specs.declared.State.{State}
+
+-- "feed what remains in order to a fresh reader with buffers of the right sizes, each handed on as the last call left it, and
+-- finish once. Then ...": proved as `law` in proofs/Law.antt
+abbrev pub DemandLaw : Type 0
+DemandLaw = (xs : List Fate) (b : Buffers) (c k : ℕ) (t : Trace) → Stream c k xs b t → Allowed fresh b (fed xs) t → Demand3 k xs t × OnceEach k xs t
+
+-- a reader that keeps the promises of `reader::step` and `reader::finish`, and one that meets demand 3: who keeps them meets it
+-- (`meets`), and the reader of the definitions keeps them (`defined-keeps`)
+pub record Keeps (R : Reader) : Type 0 where
+  pub steps : (s : State) (b : Buffers) (r : List ℕ) → StepAllowed s b r (R .steps s b r)
+  pub finishes : (s : State) (b : Buffers) → EndAllowed s b (R .finishes s b)
+
+abbrev pub Meets : Reader → Type 0
+Meets R = (xs : List Fate) (b : Buffers) (c k : ℕ) → Stream c k xs b (traceOf R fresh b (fed xs))
+    → Demand3 k xs (traceOf R fresh b (fed xs)) × OnceEach k xs (traceOf R fresh b (fed xs))
