@@ -14,6 +14,6 @@ patch d at s = take at d ++ (s ++ drop (at + length s) d)
 abbrev pub hasRoom : ℕ → ℕ → ℕ → Bool
 hasRoom size at n = leb (at + n) size
 
--- where it lies wholly inside; else d as it was
+-- d with s over it from place `at` on where it lies wholly inside; else d as it was
 abbrev pub laid {ℓ} : {A : Type ℓ} → List A → List A → ℕ → List A
 laid s d at = cond (hasRoom (length d) at (length s)) (patch d at s) d

@@ -8,6 +8,8 @@ use lib.Dec.{eqb}
 use lib.IntN.{ℤ}
 use lib.ListN.{length}
 use borrow.Author.Tests.{eq-eqb, ne-eqb, eqb-true, eqb-false}
+use Rattle.tables.proofs.Conds.{two}
+use Rattle.state.proofs.Numbers.{accepted-is, refused-is}
 use Rattle.state.specs.List.{listed}
 use Rattle.state.specs.Deciding.{Input, numberOf, decidedOf, acceptedAt, answerNumber}
 use Rattle.state.specs.Ending.{ending, unended, endedOf, endingNumber}
@@ -17,8 +19,6 @@ use Rattle.state.specs.declared.deciding.Taken.{Taken}
 use Rattle.state.specs.declared.ending.Ended.{Ended}
 use Rattle.state.specs.declared.ending.Ending.the-variants as end
 use Rattle.state.specs.declared.ending.Finished.{Finished}
-use Rattle.state.proofs.Facts.{two}
-use Rattle.state.proofs.Told.{accepted-is, refused-is}
 use Rattle.reader.specs.Steps.{Buffers, buffers, sized, input, StepIs, FinishIs}
 use Rattle.encoding.specs.States.{stateSize, isState, stateOf, stateBytes, written}
 use Rattle.encoding.specs.Reports.{closedSize, closedBytes, reportSize, reportBytes, reportWritten}

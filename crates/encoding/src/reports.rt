@@ -1,7 +1,7 @@
 // What a call closed, and the report of a step, as bytes.
 ghost use mathlib.Core.Path.{_≡_};
 ghost use lib.ListN.{length};
-ghost use Rattle.encoding.specs.Reports.{closedSize, closedBytes, reportSize, reportWritten, gapNumber, takenSize, takenBytes};
+ghost use Rattle.encoding.specs.Reports.{closedSize, closedBytes, reportWritten, gapNumber, takenSize, takenBytes};
 ghost use Rattle.encoding.specs.States.{written};
 use crate::CLOSED;
 use crate::FIELDS;

@@ -8,16 +8,13 @@ use native.Mathlib.Omega.{arith}
 use lib.Count.{ones}
 use lib.Dec.{eqb, ltb}
 use lib.ListN.{length, length-append}
-use borrow.Author.Tests.{lt-ltb, le-ltb, ltb-true, eqb-false, not-true, not-false}
-use Rattle.state.specs.Clock.{counts}
+use borrow.Author.Tests.{lt-ltb, le-ltb, eqb-false, not-true, not-false}
 use Rattle.state.specs.Major.{majorOpen, majorReported}
-use Rattle.state.specs.List.{countsBelow, listed}
+use Rattle.state.specs.List.{listed}
 use Rattle.state.specs.declared.State.{State}
-use Rattle.state.specs.declared.accumulation.Accumulation.{Accumulation}
-use Rattle.state.specs.declared.clock.Clock.{Clock}
 use Rattle.state.specs.declared.accumulation.AccumulationReport.{AccumulationReport}
 use Rattle.state.specs.declared.major.MajorReport.{MajorReport}
-use Rattle.state.proofs.Facts.{two, facts, current-slot}
+use Rattle.state.proofs.Facts.{facts, current-slot, last-below}
 use Rattle.listing.specs.Text.{ascii, Put}
 use Rattle.listing.specs.Lines.{lineSize, lineOf, frameLine, majorLine, accumLine, closedLines, closedSize}
 use Rattle.listing.proofs.Puts.{put-none}
@@ -97,10 +94,6 @@ unfolding closedLines
 length-closed m a = simp length-append (omega (arith, length-major m, length-accum a (a .closed) refl))
 
 -- no line is left out: a major frame that closes from a state that keeps 01's list has its number below 2^20
-last-below : (c : Clock) (a : Accumulation) → countsBelow c a ≡ true → c .last < counts
-unfolding countsBelow
-last-below c a h = ltb-true (c .last) counts (two (ltb (c .last) counts) _ h .0)
-
 pub always-listed : (s : State) → listed s ≡ true → majorOpen (s .major) ≡ true → majorLine (majorReported (s .major)) ≡ frameLine (s .major)
 unfolding majorLine
 always-listed s h o =

@@ -1,6 +1,5 @@
 // Bytes put into a buffer, one text after another.
 ghost use Prim.Native.Nat.{_+_, _≤_};
-ghost use mathlib.Core.Path.{_≡_};
 ghost use lib.ListN.{length};
 ghost use Rattle.listing.specs.Text.{Put};
 

@@ -4,6 +4,7 @@ mod unpacking;
 
 pub use nominal::Field;
 pub use nominal::field_of;
+pub use nominal::is_sample;
 pub use unpacking::Unpacked;
 pub use unpacking::lay;
 pub use unpacking::range_of;

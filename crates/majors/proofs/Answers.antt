@@ -1,20 +1,20 @@
 -- The answers that the tests on the way lead to.
 -- Assumes nothing.
 use mathlib.Core.Path.{_≡_, refl, sym, ap, _∙_}
-use mathlib.Core.Bool.{Bool, true, false, cond, _&&_}
+use mathlib.Core.Bool.{Bool, true, false, not, cond, _&&_}
 use mathlib.Core.List.{List}
 use Prim.Native.Nat.{ℕ, _/_, _%_, _^_, _<_, _≤_}
 use mathlib.Core.Option.{none, some}
 use native.Mathlib.Omega.{arith}
-use lib.Dec.{ltb}
+use lib.Dec.{eqb, ltb}
 use lib.Ieee.{Float}
-use lib.IntN.{ℤ, pos, negsuc}
+use lib.IntN.{ℤ}
 use lib.ListN.{length, getD}
-use lib.Signed.{ltZ}
-use borrow.Author.Tests.{eq-eqb, ne-eqb, lt-ltb, le-ltb}
+use borrow.Author.Tests.{eq-eqb, ne-eqb, lt-ltb, le-ltb, eqb-true, ltb-true, not-true, not-false}
+use Rattle.tables.proofs.Conds.{two}
 use Rattle.mag.specs.Samples.{samplesSize}
 use Rattle.cells.specs.Words.{said}
-use Rattle.mag.specs.Field.{fieldOf, hasField, fieldGiven, FieldIs, Answered}
+use Rattle.mag.specs.Field.{fieldOf, isSample, hasField, fieldGiven, FieldIs, Answered}
 use Rattle.mag.specs.declared.nominal.Field.{Field}
 use Rattle.mag.specs.declared.nominal.Field.the-variants as field
 use Rattle.state.specs.declared.major.Major.{Major}
@@ -26,24 +26,32 @@ use Rattle.majors.specs.declared.Sample.{Sample}
 use Rattle.majors.specs.declared.Sample.the-variants as sample
 use Rattle.majors.specs.declared.Word.{Word}
 use Rattle.majors.specs.declared.Word.the-variants as word
-use Rattle.mag.proofs.Fields.{leZ-not}
 
 module _ (samples : List ℤ) (s k : ℕ) where
-  off-size : (length samples ≡ frameSamples → ⊥) → isPlace samples s k ≡ false
+  pub off-size : (length samples ≡ frameSamples → ⊥) → false ≡ isPlace samples s k
   unfolding isPlace
   off-size h = rw (ne-eqb (length samples) frameSamples h)
 
-  off-slot : length samples ≡ frameSamples → slots ≤ s → isPlace samples s k ≡ false
+  pub off-slot : length samples ≡ frameSamples → slots ≤ s → false ≡ isPlace samples s k
   unfolding isPlace
   off-slot h l = rw (eq-eqb (length samples) frameSamples h, le-ltb s slots l)
 
-  off-number : length samples ≡ frameSamples → s < slots → samplesSize ≤ k → isPlace samples s k ≡ false
+  pub by-number : length samples ≡ frameSamples → s < slots → ltb k samplesSize ≡ isPlace samples s k
   unfolding isPlace
-  off-number h l n = rw (eq-eqb (length samples) frameSamples h, lt-ltb s slots l, le-ltb k samplesSize n)
+  by-number h l = rw (eq-eqb (length samples) frameSamples h, lt-ltb s slots l)
 
-  in-place : length samples ≡ frameSamples → s < slots → k < samplesSize → isPlace samples s k ≡ true
+  -- what a place is
+  pub record Place : Type 0 where
+    pub size : length samples ≡ frameSamples
+    pub slot : s < slots
+    pub number : k < samplesSize
+
+  pub is-place : (b : Bool) → b ≡ isPlace samples s k → not b ≡ false → Place
   unfolding isPlace
-  in-place h l n = rw (eq-eqb (length samples) frameSamples h, lt-ltb s slots l, lt-ltb k samplesSize n)
+  is-place b e h =
+      let x = two (eqb (length samples) frameSamples) (ltb s slots && ltb k samplesSize) (sym e ∙ not-false b h) in
+      let y = two (ltb s slots) (ltb k samplesSize) (x .1) in
+      record { size = eqb-true (length samples) frameSamples (x .0); slot = ltb-true s slots (y .0); number = ltb-true k samplesSize (y .1) }
 
 module _ (m : Major) (samples : List ℤ) (s k : ℕ) where
   is-sample : (x : Sample) → x ≡ cond (hasStored samples s k) (cond (magHeld m s) (sample.Value (stored samples s k)) sample.Absent) sample.NoSuchPlace → SampleIs m samples s k x
@@ -63,37 +71,24 @@ module _ (m : Major) (samples : List ℤ) (s k : ℕ) where
   no-sample : hasStored samples s k ≡ false → SampleIs m samples s k sample.NoSuchPlace
   no-sample e = is-sample sample.NoSuchPlace (rw e)
 
-  no-sample-at : isPlace samples s k ≡ false → SampleIs m samples s k sample.NoSuchPlace
+  pub sample-nowhere : (b : Bool) → b ≡ isPlace samples s k → not b ≡ true → SampleIs m samples s k sample.NoSuchPlace
   unfolding hasStored
-  no-sample-at e = no-sample (rw e)
+  sample-nowhere b e h = no-sample (rw (sym e ∙ not-true b h))
 
-  pub sample-size : (length samples ≡ frameSamples → ⊥) → SampleIs m samples s k sample.NoSuchPlace
-  sample-size h = no-sample-at (off-size samples s k h)
-
-  pub sample-slot : length samples ≡ frameSamples → slots ≤ s → SampleIs m samples s k sample.NoSuchPlace
-  sample-slot h l = no-sample-at (off-slot samples s k h l)
-
-  pub sample-number : length samples ≡ frameSamples → s < slots → samplesSize ≤ k → SampleIs m samples s k sample.NoSuchPlace
-  sample-number h l n = no-sample-at (off-number samples s k h l n)
-
-  module _ (h : length samples ≡ frameSamples) (l : s < slots) (n : k < samplesSize) where
-    pub sample-low : ltZ (stored samples s k) (negsuc 2047) ≡ true → SampleIs m samples s k sample.NoSuchPlace
+  module _ (b : Bool) (e : b ≡ isPlace samples s k) (h : not b ≡ false) (t : Bool) (q : t ≡ isSample (stored samples s k)) where
+    pub sample-outside : not t ≡ true → SampleIs m samples s k sample.NoSuchPlace
     unfolding hasStored
-    sample-low e = no-sample (rw (in-place samples s k h l n, leZ-not (negsuc 2047) (stored samples s k), e))
+    sample-outside l = no-sample (rw (sym e ∙ not-false b h, sym q ∙ not-true t l))
 
-    pub sample-high : ltZ (stored samples s k) (negsuc 2047) ≡ false → ltZ (pos 2047) (stored samples s k) ≡ true → SampleIs m samples s k sample.NoSuchPlace
+    has-sample : not t ≡ false → hasStored samples s k ≡ true
     unfolding hasStored
-    sample-high e f = no-sample (rw (in-place samples s k h l n, leZ-not (negsuc 2047) (stored samples s k), leZ-not (stored samples s k) (pos 2047), e, f))
+    has-sample l = rw (sym e ∙ not-false b h, sym q ∙ not-false t l)
 
-    has-sample : ltZ (stored samples s k) (negsuc 2047) ≡ false → ltZ (pos 2047) (stored samples s k) ≡ false → hasStored samples s k ≡ true
-    unfolding hasStored
-    has-sample e f = rw (in-place samples s k h l n, leZ-not (negsuc 2047) (stored samples s k), leZ-not (stored samples s k) (pos 2047), e, f)
+    pub sample-absent : not t ≡ false → (m .«mag_slots» / 2 ^ s % 2 ≡ 1 → ⊥) → SampleIs m samples s k sample.Absent
+    sample-absent l g = is-sample sample.Absent (rw (has-sample l, ne-eqb (m .«mag_slots» / 2 ^ s % 2) 1 g))
 
-    pub sample-absent : ltZ (stored samples s k) (negsuc 2047) ≡ false → ltZ (pos 2047) (stored samples s k) ≡ false → (m .«mag_slots» / 2 ^ s % 2 ≡ 1 → ⊥) → SampleIs m samples s k sample.Absent
-    sample-absent e f g = is-sample sample.Absent (rw (has-sample e f, ne-eqb (m .«mag_slots» / 2 ^ s % 2) 1 g))
-
-    pub sample-held : ltZ (stored samples s k) (negsuc 2047) ≡ false → ltZ (pos 2047) (stored samples s k) ≡ false → m .«mag_slots» / 2 ^ s % 2 ≡ 1 → SampleIs m samples s k (sample.Value (stored samples s k))
-    sample-held e f g = is-sample (sample.Value (stored samples s k)) (rw (has-sample e f, eq-eqb (m .«mag_slots» / 2 ^ s % 2) 1 g))
+    pub sample-held : not t ≡ false → m .«mag_slots» / 2 ^ s % 2 ≡ 1 → SampleIs m samples s k (sample.Value (stored samples s k))
+    sample-held l g = is-sample (sample.Value (stored samples s k)) (rw (has-sample l, eq-eqb (m .«mag_slots» / 2 ^ s % 2) 1 g))
 
 module _ (m : Major) (s : ℕ) where
   is-word : (x : Word) → x ≡ cond (ltb s slots) (cond (slotHeld m s) (word.Value (getD (m .words) s 0)) word.Absent) word.NoSuchPlace → WordIs m s x
@@ -143,20 +138,11 @@ module _ (m : Major) (samples : List ℤ) (s k : ℕ) where
   unfolding nominalGiven
   no-nominal e = is-nominal nominal.NoSuchPlace (rw e) (none-given nominal.NoSuchPlace refl)
 
-  no-nominal-at : isPlace samples s k ≡ false → NominalIs m samples s k nominal.NoSuchPlace
+  pub nominal-nowhere : (b : Bool) → b ≡ isPlace samples s k → not b ≡ true → NominalIs m samples s k nominal.NoSuchPlace
   unfolding hasNominal
-  no-nominal-at e = no-nominal (rw e)
+  nominal-nowhere b e h = no-nominal (rw (sym e ∙ not-true b h))
 
-  pub nominal-size : (length samples ≡ frameSamples → ⊥) → NominalIs m samples s k nominal.NoSuchPlace
-  nominal-size h = no-nominal-at (off-size samples s k h)
-
-  pub nominal-slot : length samples ≡ frameSamples → slots ≤ s → NominalIs m samples s k nominal.NoSuchPlace
-  nominal-slot h l = no-nominal-at (off-slot samples s k h l)
-
-  pub nominal-number : length samples ≡ frameSamples → s < slots → samplesSize ≤ k → NominalIs m samples s k nominal.NoSuchPlace
-  nominal-number h l n = no-nominal-at (off-number samples s k h l n)
-
-  module _ (h : length samples ≡ frameSamples) (l : s < slots) (n : k < samplesSize) (f : Field) (a : Answered (stored samples s k) (getD (m .ranges) s 0) f) where
+  module _ (b : Bool) (p : b ≡ isPlace samples s k) (h : not b ≡ false) (f : Field) (a : Answered (stored samples s k) (getD (m .ranges) s 0) f) where
     outside : f ≡ field.NoSuchPlace → hasField (stored samples s k) (getD (m .ranges) s 0) ≡ false
     outside e = go (hasField (stored samples s k) (getD (m .ranges) s 0)) refl
       where
@@ -173,11 +159,11 @@ module _ (m : Major) (samples : List ℤ) (s k : ℕ) where
 
     pub nominal-outside : f ≡ field.NoSuchPlace → NominalIs m samples s k nominal.NoSuchPlace
     unfolding hasNominal
-    nominal-outside e = no-nominal (rw (in-place samples s k h l n, outside e))
+    nominal-outside e = no-nominal (rw (sym p ∙ not-false b h, outside e))
 
     has-nominal : (x : Float) → f ≡ field.Nanotesla x → hasNominal m samples s k ≡ true
     unfolding hasNominal
-    has-nominal x e = rw (in-place samples s k h l n, inside x e)
+    has-nominal x e = rw (sym p ∙ not-false b h, inside x e)
 
     pub nominal-absent : (x : Float) → f ≡ field.Nanotesla x → (m .«mag_slots» / 2 ^ s % 2 ≡ 1 → ⊥) → NominalIs m samples s k nominal.Absent
     unfolding nominalGiven

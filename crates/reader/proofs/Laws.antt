@@ -25,8 +25,8 @@ use Rattle.state.specs.declared.deciding.Taken.{Taken}
 use Rattle.state.specs.declared.ending.Ended.{Ended}
 use Rattle.state.specs.declared.ending.Finished.{Finished}
 use Rattle.state.specs.declared.major.MajorReport.{MajorReport}
-use Rattle.state.proofs.Numbers.{exactly}
-use Rattle.state.proofs.Told.{refused-is, samples-real, samples-first}
+use Rattle.state.proofs.Numbers.{exactly, refused-is}
+use Rattle.state.proofs.Told.{samples-real, samples-first}
 use Rattle.state.proofs.Closing.{step-closes, end-closes, end-clears, cells-by-gap}
 use Rattle.state.proofs.Keeping.{step-sound, end-sound, never-13}
 use Rattle.reader.specs.Buffers.{copiedBy, clearedBy, frameLaidBy, slotLaidBy}

@@ -6,9 +6,9 @@ use mathlib.Core.List.{List}
 use Prim.Native.Nat.{ℕ}
 use lib.ListN.{length, length-replicate}
 use borrow.Author.Tests.{eqb-true, eq-eqb}
+use Rattle.tables.proofs.Conds.{two}
 use Rattle.buffers.specs.Copying.{copied}
 use Rattle.cells.specs.Laying.{cellsSize}
-use Rattle.state.proofs.Facts.{two}
 use Rattle.state.specs.Major.{frameSamples}
 use Rattle.reader.specs.Buffers.{copiedBy, clearedBy}
 use Rattle.reader.specs.Steps.{sizedBy}

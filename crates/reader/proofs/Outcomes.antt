@@ -9,6 +9,8 @@ use lib.Dec.{eqb}
 use lib.IntN.{ℤ, pos}
 use lib.ListN.{length}
 use borrow.Author.Tests.{eqb-true, eqb-false}
+use Rattle.tables.proofs.Conds.{two}
+use Rattle.state.proofs.Numbers.{refused-is}
 use Rattle.record.specs.Layout.{size, packetBytes, frameCode}
 use Rattle.carriage.specs.Carriage.{types}
 use Rattle.cells.specs.Laying.{cellsSize, frameType}
@@ -19,8 +21,7 @@ use Rattle.state.specs.Ending.{unended, ending, endedOf, endNumber, EndedIs}
 use Rattle.state.specs.declared.State.{State}
 use Rattle.state.specs.declared.deciding.Decided.{Decided}
 use Rattle.state.specs.declared.ending.Ended.{Ended}
-use Rattle.state.proofs.Facts.{two}
-use Rattle.state.proofs.Told.{all-pass, passed-size, at-work, refused-is, accepted-clock, real-type, cells-real}
+use Rattle.state.proofs.Told.{all-pass, passed-size, at-work, accepted-clock, real-type, cells-real}
 use Rattle.reader.specs.Buffers.{copiedBy, clearedBy, frameLaidBy, slotLaidBy}
 use Rattle.reader.specs.Steps.{sizedBy, buffers, sized, input, StepIs, FinishIs}
 use Rattle.reader.proofs.Lengths.{Sizes, sizes, length-cleared}

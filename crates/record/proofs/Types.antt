@@ -9,7 +9,7 @@ use lib.Dec.{T, leb}
 use lib.ListN.{length, length-take, length-drop}
 use borrow.Author.Tests.{eq-eqb, ne-eqb}
 use Rattle.tables.specs.Upto.{both, upto}
-use Rattle.tables.proofs.Upto.{both-left, both-right, upto-at}
+use Rattle.tables.proofs.Upto.{both-left, both-right, upto-at, is-true}
 use Rattle.record.specs.Layout.{size, packetSize, packetBytes, frameType}
 use Rattle.record.specs.Frame.{kindOfType, kindOf, typesOf, KindIs}
 use Rattle.record.specs.Rules.{typeHolds}
@@ -38,9 +38,6 @@ every-type : T (upto right 64)
 unfolding both same typesOf kindOfType defined
 every-type = tt
 
-told : (b : Bool) → T b → b ≡ true
-told true t = refl
-
 module _ (p : List ℕ) where
   small : frameType p < 64
   small = omega arith
@@ -49,7 +46,7 @@ module _ (p : List ℕ) where
   right-here = upto-at right 64 every-type (frameType p) small
 
   typed : typesOf (kindOfType (frameType p)) (frameType p) ≡ true
-  typed = told _ (both-left (typesOf (kindOfType (frameType p)) (frameType p)) (same (defined (kindOfType (frameType p))) (not (leb 58 (frameType p) && leb (frameType p) 61))) right-here)
+  typed = is-true _ (both-left (typesOf (kindOfType (frameType p)) (frameType p)) (same (defined (kindOfType (frameType p))) (not (leb 58 (frameType p) && leb (frameType p) 61))) right-here)
 
   kind-if : length p ≡ packetSize → kindOf p ≡ kindOfType (frameType p)
   unfolding kindOf

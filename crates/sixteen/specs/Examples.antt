@@ -36,8 +36,8 @@ Holds (frame t c u d g j) =
     (a : Accumulation) → isOpen a ≡ true → a .«last_type» ≡ t → a .«last_count» ≡ c → a .others ≡ 0 → (gap a d ≡ g) × (joins a u d ≡ j)
 Holds (angle a p b) = (hasBin a p ≡ true) × (angleAt a p ≡ b)
 
--- the sixteen, and two more. "Bytes 80 07 FF give 0 and -1; 00 0F FF give -2,048 and 2,047": as printed of the most-significant-first order, and beside them
--- the same answers in the packet's own order (000, section 2.2)
+-- the sixteen, and two more: 01's two rows of bytes are in the most-significant-first order as printed, and below each stands the
+-- one with the same answers in the packet's own order (000, section 2.2)
 unfoldable pub table : List Example
 table =
     counts 0 0 0

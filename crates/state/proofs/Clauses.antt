@@ -10,7 +10,7 @@ use lib.Arith.{lt-of-le-ne}
 use lib.Count.{ones}
 use lib.Dec.{eqb, leb}
 use lib.Pow.{pow-mono}
-use borrow.Author.Tests.{eq-eqb, ne-eqb, eqb-true, eqb-false, le-leb, lt-leb, lt-ltb, leb-true, leb-false}
+use borrow.Author.Tests.{eq-eqb, ne-eqb, eqb-true, eqb-false, le-leb, lt-leb, lt-ltb, leb-true, leb-false, not-true, not-false}
 use Rattle.tables.specs.Marks.{highest}
 use Rattle.tables.specs.Upto.{both, upto}
 use Rattle.state.specs.List.{framesAmong, framesFit, othersFit, magAmong, rangeKept, wordKept, slotTest, begun}
@@ -108,15 +108,6 @@ module _ (s : State) (any : s .clock .any ≡ false) where
   pub slots-left : s .clock .last ≡ 0 → s .accumulation .held ≡ 0 → eqb (s .major .slots) 0 ≡ begun s
   unfolding begun
   slots-left e h = rw (any, eq-eqb (s .clock .last) 0 e, eq-eqb (s .accumulation .held) 0 h)
-
--- a test that is turned round
-pub not-true : (b : Bool) → not b ≡ true → b ≡ false
-not-true true e = sym e
-not-true false e = refl
-
-pub not-false : (b : Bool) → not b ≡ false → b ≡ true
-not-false true e = refl
-not-false false e = sym e
 
 -- a turn of the loop over the slots, and its end
 pub one-more : (f : ℕ → Bool) (i : ℕ) → f i ≡ true → upto f i ≡ true → upto f (i + 1) ≡ true

@@ -6,6 +6,8 @@ use mathlib.Core.Bool.{Bool, true, false, cond, _&&_, true≢false, false≢true
 use Prim.Native.Nat.{ℕ}
 use lib.Dec.{eqb}
 use borrow.Author.Tests.{eqb-true, eqb-false}
+use Rattle.tables.proofs.Conds.{two}
+use Rattle.state.proofs.Numbers.{accepted-is, refused-is}
 use Rattle.state.specs.Accumulation.{isOpen, reported, unreported, stepAccumulation, clearsFor, laysFor}
 use Rattle.state.specs.Major.{majorOpen, majorReported, majorUnreported, continues, stays, turns, stepMajor}
 use Rattle.state.specs.List.{listed}
@@ -26,8 +28,6 @@ use Rattle.state.specs.declared.ending.Ending.the-variants.{Done}
 use Rattle.state.specs.declared.major.Major.{Major}
 use Rattle.state.specs.declared.major.MajorReport.{MajorReport}
 use Rattle.state.specs.declared.work.Work.{Work}
-use Rattle.state.proofs.Facts.{two}
-use Rattle.state.proofs.Told.{accepted-is, refused-is}
 use Rattle.state.proofs.Keeping.{ended-listed}
 
 -- what a report and its work have to do with each other: copied when closed, and then cleared

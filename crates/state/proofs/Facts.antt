@@ -7,6 +7,7 @@ use native.Mathlib.Omega.{arith}
 use lib.Dec.{eqb, ltb}
 use lib.Pow.{pow-mono}
 use borrow.Author.Tests.{eqb-true, ltb-true, leb-true, eq-eqb, ne-eqb}
+use Rattle.tables.proofs.Conds.{two, second}
 use Rattle.tables.specs.Marks.{bitSet, highest}
 use Rattle.tables.proofs.Marks.{highest-high, bits-above}
 use Rattle.tables.proofs.Upto.{upto-true}
@@ -20,15 +21,6 @@ use Rattle.state.specs.declared.State.{State}
 use Rattle.state.specs.declared.accumulation.Accumulation.{Accumulation}
 use Rattle.state.specs.declared.clock.Clock.{Clock}
 use Rattle.state.specs.declared.major.Major.{Major}
-
-pub two : (a b : Bool) → (a && b) ≡ true → (a ≡ true) × (b ≡ true)
-two true b e = (refl, e)
-two false b e = absurd (false≢true e)
-
--- one of two, the first of which doesn't hold
-pub second : (a b : Bool) → a ≡ false → (a || b) ≡ true → b ≡ true
-second false b h e = e
-second true b h e = absurd (false≢true (sym h))
 
 -- the clauses, each by itself
 pub record Listed (s : State) : Type 0 where
@@ -54,6 +46,10 @@ facts s e =
     let h = two _ _ (g .1) in
     let k = two _ _ (h .1) in
     record { counted = a .0; among = b .0; fit = c .0; others = d .0; slots = f .0; current = g .0; shut = h .0; empty = k .0; start = k .1 }
+
+pub last-below : (c : Clock) (a : Accumulation) → countsBelow c a ≡ true → c .last < counts
+unfolding countsBelow
+last-below c a e = ltb-true (c .last) counts (two (ltb (c .last) counts) _ e .0)
 
 pub first-below : (c : Clock) (a : Accumulation) → countsBelow c a ≡ true → a .first < counts
 unfolding countsBelow

@@ -10,7 +10,8 @@ use lib.Dec.{eqb}
 use lib.ListN.{length, replicate, getD, length-replicate, getD-replicate}
 use lib.Pow.{pow-pos}
 use lib.Seq.{ext-getD}
-use borrow.Author.Tests.{eqb-true, eqb-false, eq-eqb, ltb-true, lt-ltb, le-leb}
+use borrow.Author.Tests.{eqb-true, eqb-false, eq-eqb, lt-ltb, le-leb}
+use Rattle.tables.proofs.Conds.{two, second}
 use Rattle.tables.specs.Marks.{bitSet}
 use Rattle.tables.specs.Rules.{ofPart, holdsIn}
 use Rattle.record.specs.Rules.{rules}
@@ -33,9 +34,9 @@ use Rattle.state.specs.declared.accumulation.Accumulation.{Accumulation}
 use Rattle.state.specs.declared.clock.Clock.{Clock}
 use Rattle.state.specs.declared.deciding.Decided.{Decided}
 use Rattle.state.specs.declared.major.Major.{Major}
-use Rattle.state.proofs.Numbers.{exactly}
-use Rattle.state.proofs.Facts.{two, second, Listed, facts, is-free, frame-above, slot-clauses, mag-among}
-use Rattle.state.proofs.Told.{all-pass, accepted-is, refused-is, real-type}
+use Rattle.state.proofs.Numbers.{exactly, accepted-is, refused-is}
+use Rattle.state.proofs.Facts.{last-below, Listed, facts, is-free, frame-above, slot-clauses, mag-among}
+use Rattle.state.proofs.Told.{all-pass, real-type}
 use Rattle.state.proofs.KeepsFrames.{Frames, none-zero, joins-open, below-mark, keeps-joined, keeps-passed, keeps-started}
 use Rattle.state.proofs.KeepsSlots.{Slots, Room, well-facts, shaped-none, none-well, room-none, room-free, keeps-into, shaped-into}
 
@@ -128,10 +129,6 @@ module _ (s : State) (r : List ℕ) (sound : Sound s) (l : later (s .clock) (rec
         shaped = subst⁻¹ Shaped major-is (shaped-into m d t k (recordOf r .subcom) (omega arith) real);
       }
 
-last-below : (s : State) → Listed s → s .clock .last < counts
-unfolding countsBelow
-last-below s f = ltb-true (s .clock .last) counts (two _ _ (f .counted) .0)
-
 clock-so : (i : Input) → clockHolds i ≡ true → later (i .state .clock) (recordOf (i .bytes) .count) ≡ true
 unfolding clockHolds
 clock-so i e = e
@@ -150,7 +147,7 @@ pub ended-listed : (s : State) → Sound s → listed (ending s .finished .state
 unfolding begun
 ended-listed s sound =
     let f = facts s (sound .passes) in
-    is-listed (s .clock) noAccumulation noMajor (none-frames (s .clock) (last-below s f)) (none-slots (s .clock)) (still-begun (s .clock .any) _ (f .start))
+    is-listed (s .clock) noAccumulation noMajor (none-frames (s .clock) (last-below (s .clock) (s .accumulation) (f .counted))) (none-slots (s .clock)) (still-begun (s .clock .any) _ (f .start))
   where
     still-begun : (a b : Bool) → (a || (eqb (s .clock .last) 0 && b)) ≡ true → (a || (eqb (s .clock .last) 0 && true)) ≡ true
     still-begun true b e = refl

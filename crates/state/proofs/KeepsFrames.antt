@@ -9,6 +9,7 @@ use lib.Count.{ones, onesIn}
 use lib.Dec.{eqb, ltb, leb}
 use lib.Pow.{pow-mono, pow-pos}
 use borrow.Author.Tests.{eqb-true, eqb-false, ltb-true, leb-true, eq-eqb, ne-eqb, lt-ltb, le-leb}
+use Rattle.tables.proofs.Conds.{two, second}
 use Rattle.tables.specs.Marks.{highest, marked}
 use Rattle.tables.proofs.Marks.{highest-high, highest-marked, marked-below, ones-marked}
 use Rattle.state.specs.Clock.{counts, accepted}
@@ -16,7 +17,7 @@ use Rattle.state.specs.Accumulation.{isOpen, joins, joined, started, pas
 use Rattle.state.specs.List.{countsBelow, framesAmong, framesFit, othersFit, noneOpen}
 use Rattle.state.specs.declared.accumulation.Accumulation.{Accumulation}
 use Rattle.state.specs.declared.clock.Clock.{Clock}
-use Rattle.state.proofs.Facts.{two, second, first-below, highest-frame, others-last}
+use Rattle.state.proofs.Facts.{first-below, highest-frame, others-last}
 
 -- the accumulation's part of the list
 pub record Frames (c : Clock) (a : Accumulation) : Type 0 where

@@ -9,6 +9,7 @@ use lib.ListN.{length, getD, length-set, getD-replicate}
 use lib.Pow.{pow-mono, pow-pos}
 use lib.Seq.{getD-set-same, getD-set-other}
 use borrow.Author.Tests.{eqb-true, eqb-false, eq-eqb, ne-eqb, le-leb}
+use Rattle.tables.proofs.Conds.{two}
 use Rattle.tables.specs.Marks.{highest, marked}
 use Rattle.tables.proofs.Marks.{highest-marked, marked-own, marked-other, marked-below, bits-above, below}
 use Rattle.tables.proofs.Upto.{upto-all}
@@ -18,7 +19,7 @@ use Rattle.state.specs.List.{magAmong, rangeFits, rangeKept, wordKept, s
 use Rattle.state.specs.Keeping.{Shaped}
 use Rattle.state.specs.declared.clock.Clock.{Clock}
 use Rattle.state.specs.declared.major.Major.{Major}
-use Rattle.state.proofs.Facts.{two, slot-clauses}
+use Rattle.state.proofs.Facts.{slot-clauses}
 
 -- the major frame's part of the list
 pub record Slots (c : Clock) (m : Major) : Type 0 where

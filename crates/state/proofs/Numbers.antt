@@ -40,15 +40,15 @@ pub exactly : (i : Input) → FirstBroken readerRules i (numberOf i)
 unfolding numberOf readerRules rules ofPart
 exactly i = first-broken i readerRules 1 (omega arith) (refl, (refl, (refl, (refl, (refl, (refl, (refl, (refl, (refl, (refl, (refl, (refl, (refl, tt)))))))))))))
 
--- a refusal and an acceptance, by the number
-decided-refused : (i : Input) (n : ℕ) → numberOf i ≡ n → 0 < n → refusal (i .state) n ≡ decidedOf i
+-- the decision on a record that no rule refuses, and on one that is refused
+pub accepted-is : (i : Input) → numberOf i ≡ 0
+    → decidedOf i ≡ acceptance (i .state) (recordOf (i .bytes)) (dated i) (range (magBytes (packetBytes (i .bytes))))
 unfolding decidedOf
-decided-refused i n e h = rw (ne-eqb (numberOf i) 0 (λ z. omega arith), e)
+accepted-is i e = rw (eq-eqb (numberOf i) 0 e)
 
-decided-accepted : (i : Input) → numberOf i ≡ 0
-    → acceptance (i .state) (recordOf (i .bytes)) (dated i) (range (magBytes (packetBytes (i .bytes)))) ≡ decidedOf i
+pub refused-is : (i : Input) → (numberOf i ≡ 0 → ⊥) → decidedOf i ≡ refusal (i .state) (numberOf i)
 unfolding decidedOf
-decided-accepted i e = rw (eq-eqb (numberOf i) 0 e)
+refused-is i h = rw (ne-eqb (numberOf i) 0 h)
 
 -- the number of a refusal, and of an acceptance
 refusal-number : (s : State) (n : ℕ) → answerNumber (refusal s n .stepped .answer) ≡ n
@@ -65,7 +65,7 @@ module _ (s : State) (sized : Bool) (r : List ℕ) (x : Decided) where
 
   is-refused : (n : ℕ) → numberOf handed ≡ n → 0 < n → x ≡ refusal s n → DecidedIs s sized r x
   is-refused n e h q = record {
-    is = q ∙ decided-refused handed n e h;
+    is = q ∙ sym (refused-is handed (λ z. omega arith) ∙ ap (λ (k : ℕ). refusal s k) e);
     number = ap (λ (y : Decided). answerNumber (y .stepped .answer)) q ∙ refusal-number s n ∙ sym e;
   }
 
@@ -99,7 +99,7 @@ module _ (s : State) (sized : Bool) (r : List ℕ) (x : Decided) where
           go true true u v w =
               let e : numberOf handed ≡ 0 = number-late ∙ rw (u, v) in
               record {
-                is = w ∙ decided-accepted handed e;
+                is = w ∙ sym (accepted-is handed e);
                 number = ap (λ (y : Decided). answerNumber (y .stepped .answer)) w ∙ acceptance-number s (recordOf r) (dated handed) (range (magBytes (packetBytes r))) ∙ sym e;
               }
 

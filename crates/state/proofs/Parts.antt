@@ -7,6 +7,7 @@ use native.Mathlib.Omega.{arith}
 use lib.Dec.{eqb}
 use lib.ListN.{set}
 use lib.Pow.{pow-mono, pow-pos}
+use borrow.Author.Tests.{not-true, not-false}
 use Rattle.tables.specs.Marks.{bitSet, marked}
 use Rattle.tables.proofs.Marks.{weight, bits-above, below}
 use Rattle.state.specs.Accumulation.{noAccumulation, passed, joined, started, reported, stepAccumulation}
@@ -18,7 +19,6 @@ use Rattle.state.specs.declared.accumulation.Gap.the-variants.{Opens, Jo
 use Rattle.state.specs.declared.major.Major.{Major}
 use Rattle.state.specs.declared.major.MajorReport.{MajorReport}
 use Rattle.state.specs.declared.major.MajorStep.{MajorStep}
-use Rattle.state.proofs.Clauses.{not-true, not-false}
 
 module _ (a : Accumulation) (real joining : Bool) (u d : ℕ) (x y : Accumulation) (r : AccumulationReport) where
   pub is-passed : not real ≡ true → x ≡ passed a → y ≡ noAccumulation → r ≡ reported y

@@ -7,7 +7,7 @@ use Prim.Native.Nat.{ℕ, _<_}
 use native.Mathlib.Omega.{arith}
 use lib.Dec.{eqb, leb}
 use lib.ListN.{length}
-use borrow.Author.Tests.{eq-eqb, ne-eqb, eqb-true, leb-true}
+use borrow.Author.Tests.{eq-eqb, eqb-true, leb-true}
 use Rattle.record.specs.Layout.{size, packetBytes, magBytes, frameType}
 use Rattle.record.specs.Frame.{kindOf, kindOfType}
 use Rattle.record.specs.declared.frame.Kind.the-variants.{RealTime, Other, Undefined}
@@ -15,15 +15,14 @@ use Rattle.record.specs.Rules.{broken}
 use Rattle.record.specs.Contents.{recordOf}
 use Rattle.record.proofs.Opened as opened
 use Rattle.mag.specs.Samples.{range}
-use Rattle.tables.proofs.Conds.{cond-of}
+use Rattle.tables.proofs.Conds.{cond-of, two}
 use Rattle.state.specs.Accumulation.{joins, passes, extends, renews, stepAccumulation}
 use Rattle.state.specs.Major.{continues, stays, turns, stepMajor}
 use Rattle.state.specs.List.{listed}
 use Rattle.state.specs.Deciding.{isRealTime, Input, dated, stateHolds, clockHolds, guardHolds, numberOf, refusal, acceptedAt, acceptance, decidedOf}
 use Rattle.state.specs.declared.deciding.Decided.{Decided}
 use Rattle.state.specs.declared.major.MajorStep.{MajorStep}
-use Rattle.state.proofs.Numbers.{number-is}
-use Rattle.state.proofs.Facts.{two}
+use Rattle.state.proofs.Numbers.{number-is, accepted-is}
 
 -- a record that no rule refuses passes each
 pub record Passed (i : Input) : Type 0 where
@@ -58,16 +57,6 @@ all-pass i e =
 pub passed-size : (i : Input) → Passed i → length (i .bytes) ≡ size
 passed-size i p = opened.sized (i .bytes) (p .record-passes)
 
--- the decision on it, and on one that is refused
-pub accepted-is : (i : Input) → numberOf i ≡ 0
-    → decidedOf i ≡ acceptance (i .state) (recordOf (i .bytes)) (dated i) (range (magBytes (packetBytes (i .bytes))))
-unfolding decidedOf
-accepted-is i e = rw (eq-eqb (numberOf i) 0 e)
-
-pub refused-is : (i : Input) → (numberOf i ≡ 0 → ⊥) → decidedOf i ≡ refusal (i .state) (numberOf i)
-unfolding decidedOf
-refused-is i h = rw (ne-eqb (numberOf i) 0 h)
-
 -- work is done for an accepted record only
 pub at-work : (i : Input) (f : Decided → Bool) → f (refusal (i .state) (numberOf i)) ≡ false → f (decidedOf i) ≡ true → numberOf i ≡ 0
 unfolding decidedOf
@@ -79,7 +68,7 @@ at-work i f r e = go (eqb (numberOf i) 0) refl e
     go true t e = eqb-true (numberOf i) 0 t
     go false t e = absurd (true≢false (sym e ∙ r))
 
--- the clock after it; and a frame that is laid is real-time
+-- the clock after it
 pub accepted-clock : (i : Input) → numberOf i ≡ 0 → decidedOf i .stepped .state .clock .last ≡ dated i
 unfolding acceptedAt
 accepted-clock i e = ap (λ (x : Decided). x .stepped .state .clock .last) (accepted-is i e)

@@ -92,6 +92,7 @@ laysFor Opens = true
 laysFor Joins = true
 laysFor Neither = false
 
--- What the code of private functions asks: count d lies after the last real-time frame of an open accumulation and the other frames since
+-- What the code of private functions asks: count d lies after the last real-time frame of an open accumulation and the other
+-- frames since
 abbrev pub After : Accumulation → ℕ → Type 0
 After a d = (a .held ≡ 0 → ⊥) → a .«last_count» + a .others < d

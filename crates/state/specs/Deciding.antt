@@ -6,7 +6,7 @@ use mathlib.Core.Bool.{Bool, true, false, cond, _&&_}
 use mathlib.Core.List.{List, [], _∷_, _++_}
 use mathlib.Core.Path.{_≡_}
 use lib.Dec.{eqb}
-use Rattle.tables.specs.Rules.{Rule, rule, ofPart, firstBroken, holdsIn}
+use Rattle.tables.specs.Rules.{Rule, rule, ofPart, firstBroken}
 use Rattle.record.specs.Layout.{packetBytes, magBytes}
 use Rattle.record.specs.Rules.{rules}
 use Rattle.record.specs.Contents.{recordOf}
@@ -61,9 +61,6 @@ readerRules = rule 1 stateHolds ∷ (ofPart (λ (i : Input). i .bytes) rules ++ 
 -- the number of the first rule that fails, or 0
 unfoldable pub numberOf : Input → ℕ
 numberOf i = firstBroken readerRules i
-
-abbrev pub ruleHolds : ℕ → Input → Bool
-ruleHolds n i = holdsIn readerRules n i
 
 abbrev pub noWork : Work
 noWork = record { copies = false; clears = false; lays = false }

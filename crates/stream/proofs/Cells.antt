@@ -9,6 +9,9 @@ use native.Mathlib.Omega.{arith}
 use lib.Count.{ones, onesIn}
 use lib.ListN.{length, getD, getD-replicate, length-replicate}
 use lib.Pow.{pow-pos}
+use Rattle.tables.proofs.Every.{every-map}
+use Rattle.stream.proofs.Grouping.{rising-links}
+use Rattle.stream.proofs.Chains.{Typed}
 use Rattle.tables.specs.Marks.{marked}
 use Rattle.tables.proofs.Marks.{bits-above}
 use Rattle.record.specs.Layout.{frameCode, scienceBytes}
@@ -27,17 +30,8 @@ use Rattle.stream.proofs.Calls.{cellsWith, noCells}
 use Rattle.stream.proofs.Marking.{marksFrom, Rising, Free, free-below, fits-more, marks-stay, marks-first, marks-count, marks-below}
 use Rattle.stream.proofs.Rounds.{cellsFrom, outOf}
 
--- a real-time record's type and Frame Code
-pub record Typed (f : Kept) : Type 0 where
-  pub small : typeOf f < types
-  pub code : frameCode (packet f) < 256
-
 abbrev codeOf : Kept → ℕ
 codeOf f = frameCode (packet f)
-
-type-is : (f : Kept) → typeOf f ≡ codeOf f % 64
-unfolding recordOf
-type-is f = refl
 
 -- one frame laid: its own type's cells and pair, and another's
 module _ (f : Kept) (c : List ℕ) (t : Typed f) where
@@ -92,17 +86,6 @@ unfolding cellsFrom cellsWith
 cells-length [] c e = e
 cells-length (f ∷ fs) c e = cells-length fs (cellsWith f c) (length-frame (codeOf f) (scienceBytes (packet f)) c)
 
--- the types of one accumulation rise
-rises : (fs : List Kept) (p : Kept) → Linked Joined p fs → Rising typeOf (typeOf p + 1) fs
-unfolding Linked Rising
-rises [] p h = tt
-rises (f ∷ fs) p h = (omega (arith, h .0 .rising), rises fs f (h .1))
-
-small : (fs : List Kept) → Every Typed fs → Every (λ f. typeOf f < types) fs
-unfolding Every
-small [] t = tt
-small (f ∷ fs) t = (t .0 .small, small fs (t .1))
-
 none-pair : (u : ℕ) → u < types → pairAt noCells u ≡ 0
 unfolding pairWeight
 none-pair u h = ap (λ (b : ℕ). pairIn b u) (getD-replicate {A = ℕ} cellsSize (pairCell u) 0 0 (omega arith)) ∙ rw (div-eq-of-lt (pow-pos (6 - 2 * (u % 4))))
@@ -110,12 +93,12 @@ none-pair u h = ap (λ (b : ℕ). pairIn b u) (getD-replicate {A = ℕ} cellsSiz
 pub filled : (f : Kept) (fs : List Kept) → Every Typed (f ∷ fs) → Linked Joined f fs → Filled (f ∷ fs) (outOf (f ∷ fs))
 unfolding outOf Rising ones onesIn
 filled f fs t l =
-    let r : Rising typeOf 0 (f ∷ fs) = (omega arith, rises fs f l) in
+    let r : Rising typeOf 0 (f ∷ fs) = (omega arith, rising-links typeOf Joined (λ p f j. j .rising) fs f l) in
     let g = f ∷ fs in
     record {
       first = refl;
       frames = marks-count typeOf g 0 0 (pow-pos 0) r ∙ zero-add (length g);
-      among = marks-below typeOf g 0 0 types (pow-pos 0) (omega arith) r (small g t);
+      among = marks-below typeOf g 0 0 types (pow-pos 0) (omega arith) r (every-map Typed (λ f. typeOf f < types) (λ f h. h .small) g t);
       size = cells-length g noCells (length-replicate {A = ℕ} cellsSize 0);
       own = all-stand g _ 0 0 noCells (pow-pos 0) r t;
       others = λ u h n. record {

@@ -1,15 +1,20 @@
 -- The kept records by themselves: what the numbers of one say of the next.
 -- Assumes nothing.
 use mathlib.Core.Logic.{inl, inr}
-use mathlib.Core.Path.{_≡_, subst, subst⁻¹}
+use mathlib.Core.Path.{_≡_, refl, subst, subst⁻¹, _∙_}
 use mathlib.Core.Bool.{Bool, true, false, cond}
 use mathlib.Core.List.{List, [], _∷_}
-use Prim.Native.Nat.{ℕ, _+_, _%_, _≤_}
+use Prim.Native.Nat.{ℕ, _+_, _%_, _≤_, _<_}
 use native.Mathlib.Omega.{arith}
+use Rattle.stream.specs.Filling.{packet}
+use Rattle.record.specs.Layout.{frameCode}
+use lib.ListN.{drop}
+use lib.Seq.{getD-take, getD-drop}
+use Rattle.tables.specs.Every.{Every}
 use Rattle.bits.specs.Twelve.{Bytes}
 use Rattle.carriage.specs.Carriage.{types}
 use Rattle.stream.specs.Lists.{Neighbours}
-use Rattle.stream.specs.Sending.{realTime, next, Fate, kept, removed, extra, Sends, Kept, keptOf, unspoiled}
+use Rattle.stream.specs.Sending.{realTime, next, Fate, kept, removed, extra, Sends, Kept, keptOf, reals, unspoiled}
 use Rattle.stream.specs.Cutting.{at, typeOf, lostBetween}
 
 -- x is the next kept: count c, real-time number k and l lost ones come before what was sent from here on
@@ -64,3 +69,24 @@ next-apart p f (x ∷ y ∷ ys) c k l h (inr n) = next-apart p f (y ∷ ys) (at 
 
 pub between : (xs : List Fate) (c k : ℕ) → Sends c k xs → (p f : Kept) → Neighbours p f (unspoiled k xs) → (at f ≡ at p + 1 + lostBetween p f) × (p .lost ≤ f .lost)
 between xs c k h p f n = next-apart p f (unspoiled k xs) c k 0 (chain xs c k 0 h) n
+
+-- a kept real-time record: its number gives its type, and its Frame Code is a byte
+pub record Typed (f : Kept) : Type 0 where
+  pub typed : typeOf f ≡ f .serial % types
+  pub small : typeOf f < types
+  pub code : frameCode (packet f) < 256
+
+code-below : (f : Kept) → Bytes (f .bytes) → frameCode (packet f) < 256
+code-below f b = let e = getD-take 168 (drop 286 (f .bytes)) 0 0 (omega arith) ∙ getD-drop 286 (f .bytes) 0 0 in subst⁻¹ (λ (n : ℕ). n < 256) e (b 286)
+
+pub all-typed : (xs : List Kept) (c k l : ℕ) → Chain c k l xs → Every Typed (reals xs)
+unfolding Chain Every reals
+all-typed [] c k l h = tt
+all-typed (x ∷ xs) c k l h = go (realTime (x .bytes)) refl (all-typed xs (at x + 1) (next (x .serial) (x .bytes)) (x .lost) (h .1))
+  where
+    n : Next c k l x
+    n = h .0
+
+    go : (t : Bool) → realTime (x .bytes) ≡ t → Every Typed (reals xs) → Every Typed (reals (x ∷ xs))
+    go true e r = rw e (record { typed = n .typed e; small = omega (arith, n .typed e); code = code-below x (n .bytes) }, r)
+    go false e r = rw e r

@@ -3,21 +3,25 @@
 -- Assumes nothing.
 use mathlib.Core.Path.{_≡_, refl, ap, subst, _∙_}
 use mathlib.Core.List.{List, [], _∷_, _++_, map, append-nil, append-assoc}
-use Prim.Native.Nat.{ℕ}
+use Prim.Native.Nat.{ℕ, _+_, _<_}
+use native.Mathlib.Omega.{arith}
+use Rattle.stream.proofs.Marking.{Rising}
+use Rattle.tables.proofs.Every.{every-apart}
 use Rattle.tables.specs.Every.{Every}
 use Rattle.stream.specs.Lists.{Pairwise, flat, Linked, final, Across, Cut}
 use Rattle.stream.specs.Sending.{Kept}
-
-every-append : (Q : Kept → Type 0) (g h : List Kept) → Every Q (g ++ h) → Every Q g × Every Q h
-unfolding Every
-every-append Q [] h e = (tt, e)
-every-append Q (x ∷ g) h e = let r = every-append Q g h (e .1) in ((e .0, r .0), r .1)
 
 -- what neighbours share, all share
 pub all-share : (key : Kept → ℕ) (R : Kept → Kept → Type 0) → ((p f : Kept) → R p f → key f ≡ key p) → (fs : List Kept) (p : Kept) → Linked R p fs → Every (λ f. key f ≡ key p) (p ∷ fs)
 unfolding Linked Every
 all-share key R same [] p h = (refl, tt)
 all-share key R same (f ∷ fs) p h = (refl, subst (λ (n : ℕ). Every (λ x. key x ≡ n) (f ∷ fs)) (same p f (h .0)) (all-share key R same fs f (h .1)))
+
+-- where a key rises from each to the next, it rises throughout
+pub rising-links : (key : Kept → ℕ) (R : Kept → Kept → Type 0) → ((p f : Kept) → R p f → key p < key f) → (fs : List Kept) (p : Kept) → Linked R p fs → Rising key (key p + 1) fs
+unfolding Linked Rising
+rising-links key R up [] p h = tt
+rising-links key R up (f ∷ fs) p h = (omega (arith, up p f (h .0)), rising-links key R up fs f (h .1))
 
 -- neighbours in one group are related by R, neighbours in two by S; a group with these records is handed out as `out`
 module _ {O : Type 0} (R S : Kept → Kept → Type 0) (out : List Kept → O) where
@@ -83,5 +87,5 @@ module _ {O : Type 0} (R S : Kept → Kept → Type 0) (out : List Kept → O) w
   each-out Q P each [] c q = tt
   each-out Q P each ([] ∷ gs) c q = absurd c
   each-out Q P each ((x ∷ xs) ∷ gs) c q =
-      let r = every-append Q (x ∷ xs) (flat gs) q in
+      let r = every-apart Q (x ∷ xs) (flat gs) q in
       (each x xs (r .0) (c .0), each-out Q P each gs (c .2) (r .1))

@@ -115,7 +115,7 @@ unfolding lent
 lent-lengths =
     let c = length-replicate {A = ℕ} cellsSize 0 in
     let s = length-replicate {A = ℤ} frameSamples (pos 0) in
-    record { cells-open = c; cells-finished = c; samples-open = s; samples-finished = s }
+    record { cells = c; finished-cells = c; samples = s; finished-samples = s }
 
 pub lent-sized : sized lent ≡ true
 lent-sized = is-sized lent lent-lengths

@@ -4,7 +4,7 @@ use mathlib.Core.Path.{_≡_, refl, sym, ap, subst, subst⁻¹, _∙_}
 use mathlib.Core.Bool.{Bool, true, false, true≢false}
 use mathlib.Core.List.{List, [], _∷_}
 use mathlib.Core.Logic.{_⊎_, inl, inr, ⊎-elim}
-use Prim.Native.Nat.{ℕ, _+_, _%_, _<_, _≤_}
+use Prim.Native.Nat.{ℕ, _+_, _<_, _≤_}
 use native.Mathlib.Decide.{ℕ-discrete}
 use native.Mathlib.Omega.{arith}
 use Rattle.tables.specs.Marks.{bitSet}
@@ -19,20 +19,17 @@ use Rattle.tables.specs.Every.{Every}
 use Rattle.stream.specs.Lists.{Some, Pairwise, ExactlyOne, Neighbours, flat, Linked, Cut}
 use Rattle.stream.specs.Running.{Trace, Allowed, ClosedAccumulation, ClosedMajor, accumulations, majors}
 use Rattle.stream.specs.Sending.{realTime, next, Fate, fed, Stream, Kept, reals, unspoiled}
-use Rattle.stream.specs.Cutting.{at, typeOf, round, lostBetween, tears, major, Joined, Parted, Beside, Behind}
+use Rattle.stream.specs.Cutting.{at, typeOf, round, lostBetween, tears, major, Joined, Parted}
 use Rattle.stream.specs.Filling.{packet, Stands, Missing, Filled, slot, Sampled, Slotted, MajorFilled}
 use Rattle.stream.specs.Once.{Own, Unmixed, OwnMajor, UnmixedMajor, OnceEach}
-use Rattle.stream.proofs.Chains.{Chain, chain}
+use Rattle.stream.proofs.Chains.{Chain, chain, Typed, all-typed}
 use Rattle.stream.proofs.Grouping.{all-share}
 use Rattle.stream.proofs.Marking.{Rising, rising-down}
 use Rattle.stream.proofs.Reals.{rising-reals}
 use Rattle.stream.proofs.Members.{In, Among, among-all, every-in, in-every, some-in, in-some, each, some-out, once-in, unique, beside, real-in, in-real}
 use Rattle.stream.proofs.Demand.{demand-3}
 
--- counts rise, and the real-time ones' numbers, which give their types
-pub record Known (f : Kept) : Type 0 where
-  pub typed : typeOf f ≡ f .serial % types
-
+-- counts rise, and the real-time numbers
 serial : Kept → ℕ
 serial f = f .serial
 
@@ -49,15 +46,6 @@ rising-serials (x ∷ xs) c k l h = go (realTime (x .bytes)) refl (rising-serial
     go : (t : Bool) → realTime (x .bytes) ≡ t → Rising serial (next (x .serial) (x .bytes)) (reals xs) → Rising serial k (reals (x ∷ xs))
     go true e r = rw e (h .0 .rising, rw e at r)
     go false e r = rw e (rising-down serial (reals xs) k (x .serial) (h .0 .rising) (rw e at r))
-
-all-known : (xs : List Kept) (c k l : ℕ) → Chain c k l xs → Every Known (reals xs)
-unfolding Chain Every reals
-all-known [] c k l h = tt
-all-known (x ∷ xs) c k l h = go (realTime (x .bytes)) refl (all-known xs (at x + 1) (next (x .serial) (x .bytes)) (x .lost) (h .1))
-  where
-    go : (t : Bool) → realTime (x .bytes) ≡ t → Every Known (reals xs) → Every Known (reals (x ∷ xs))
-    go true e r = rw e (record { typed = h .0 .typed e }, r)
-    go false e r = rw e r
 
 -- one of them has it, or none
 found : (key : Kept → ℕ) (u : ℕ) (g : List Kept) → Some (λ f. key f ≡ u) g ⊎ Every (λ f. key f ≡ u → ⊥) g
@@ -88,7 +76,7 @@ one-round : (fs : List Kept) (p f : Kept) → Linked Joined p fs → In f (p ∷
 one-round fs p f l i = every-in (λ x. round x ≡ round p) (p ∷ fs) f (all-share (λ (x : Kept). round x) Joined (λ p f j. j .same) fs p l) i
 
 -- the accumulations of the kept real-time records rs
-module _ (rs : List Kept) (c k : ℕ) (counts : Rising at c rs) (serials : Rising serial k rs) (known : Every Known rs) where
+module _ (rs : List Kept) (c k : ℕ) (counts : Rising at c rs) (serials : Rising serial k rs) (known : Every Typed rs) where
   abbrev Part : List Kept → ClosedAccumulation → Type 0
   Part g a = Filled g a × Tied Joined g
 
@@ -105,8 +93,8 @@ module _ (rs : List Kept) (c k : ℕ) (counts : Rising at c rs) (serials : Risin
   same-record : (f x : Kept) → In f rs → In x rs → round x ≡ round f → typeOf x ≡ typeOf f → x ≡ f
   unfolding serial
   same-record f x i j r e =
-      let a = every-in Known rs f known i .typed in
-      let b = every-in Known rs x known j .typed in
+      let a = every-in Typed rs f known i .typed in
+      let b = every-in Typed rs x known j .typed in
       unique serial rs k x f serials j i (omega arith)
 
   -- and whose accumulation it is, is in the part
@@ -124,7 +112,7 @@ module _ (rs : List Kept) (c k : ℕ) (counts : Rising at c rs) (serials : Risin
           subst (λ (z : Kept). In z (h ∷ t)) (same-record f y i (w y j) (one-round t h y (p .1) j ∙ r) e) j)
 
       none : Every (λ y. typeOf y ≡ typeOf f → ⊥) (h ∷ t) → ⊥
-      none n = let b = every-in Known rs f known i .typed in true≢false (sym (o .0) ∙ p .0 .others (typeOf f) (omega arith) n .unheld)
+      none n = let b = every-in Typed rs f known i .typed in true≢false (sym (o .0) ∙ p .0 .others (typeOf f) (omega arith) n .unheld)
 
   -- what is held comes from one round
   unmixed-part : (g : List Kept) (a : ClosedAccumulation) → Part g a → Among rs g → Unmixed rs a
@@ -173,50 +161,47 @@ module _ (rs : List Kept) (c k : ℕ) (counts : Rising at c rs) (serials : Risin
 
 -- the major frames of the kept records rs
 module _ (rs : List Kept) (c : ℕ) (counts : Rising at c rs) where
-  abbrev Slotting : List Kept → ClosedMajor → Type 0
-  Slotting g m = MajorFilled g m × Tied Beside g
+  slot-own : (f : Kept) (g : List Kept) (m : ClosedMajor) → MajorFilled g m → Among rs g → In f g → OwnMajor f m
+  slot-own f g m p w i = let s = every-in (λ f. Slotted f m) g f (p .own) i in (s .number, s .held)
 
-  slot-own : (f : Kept) (g : List Kept) (m : ClosedMajor) → Slotting g m → Among rs g → In f g → OwnMajor f m
-  slot-own f g m p w i = let s = every-in (λ f. Slotted f m) g f (p .0 .own) i in (s .number, s .held)
-
-  own-slot : (f : Kept) → In f rs → (g : List Kept) (m : ClosedMajor) → Slotting g m → Among rs g → OwnMajor f m → In f g
+  own-slot : (f : Kept) → In f rs → (g : List Kept) (m : ClosedMajor) → MajorFilled g m → Among rs g → OwnMajor f m → In f g
   own-slot f i g m p w o =
-      ⊎-elim (λ (s : Some (λ y. slot y ≡ slot f) g). from s) (λ (n : Every (λ y. slot y ≡ slot f → ⊥) g). absurd (true≢false (sym (o .1) ∙ p .0 .no-slot (slot f) (omega arith) n .unheld))) (found (λ (x : Kept). slot x) (slot f) g)
+      ⊎-elim (λ (s : Some (λ y. slot y ≡ slot f) g). from s) (λ (n : Every (λ y. slot y ≡ slot f → ⊥) g). absurd (true≢false (sym (o .1) ∙ p .no-slot (slot f) (omega arith) n .unheld))) (found (λ (x : Kept). slot x) (slot f) g)
     where
       from : Some (λ y. slot y ≡ slot f) g → In f g
       from s = in-some (λ y. slot y ≡ slot f) (In f g) g s (λ y j e.
-          let n : major y ≡ major f = sym (every-in (λ f. Slotted f m) g y (p .0 .own) j .number) ∙ o .0 in
+          let n : major y ≡ major f = sym (every-in (λ f. Slotted f m) g y (p .own) j .number) ∙ o .0 in
           subst (λ (z : Kept). In z g) (unique at rs c y f counts (w y j) i (omega arith)) j)
 
   -- what is held comes from its records
-  unmixed-slots : (g : List Kept) (m : ClosedMajor) → Slotting g m → Among rs g → UnmixedMajor rs m
+  unmixed-slots : (g : List Kept) (m : ClosedMajor) → MajorFilled g m → Among rs g → UnmixedMajor rs m
   unmixed-slots g m p w = record {
     held = λ i l e.
         ⊎-elim (λ (s : Some (λ y. slot y ≡ i) g). in-some (λ y. slot y ≡ i) (Some (λ f. (slot f ≡ i) × Slotted f m) rs) g s (λ y j z. some-in (λ f. (slot f ≡ i) × Slotted f m) rs y (w y j) (z, stands y j)))
-        (λ (n : Every (λ y. slot y ≡ i → ⊥) g). absurd (true≢false (sym e ∙ p .0 .no-slot i l n .unheld))) (found (λ (x : Kept). slot x) i g);
-    unheld = λ i l e. p .0 .no-slot i l (in-every (λ y. slot y ≡ i → ⊥) g (λ y j z. true≢false (sym (stands y j .held) ∙ ap (λ (n : ℕ). bitSet (m .frame .slots) n) z ∙ e)));
+        (λ (n : Every (λ y. slot y ≡ i → ⊥) g). absurd (true≢false (sym e ∙ p .no-slot i l n .unheld))) (found (λ (x : Kept). slot x) i g);
+    unheld = λ i l e. p .no-slot i l (in-every (λ y. slot y ≡ i → ⊥) g (λ y j z. true≢false (sym (stands y j .held) ∙ ap (λ (n : ℕ). bitSet (m .frame .slots) n) z ∙ e)));
     marked = λ i l e.
         ⊎-elim (λ (s : Some (λ y. slot y ≡ i) (reals g)). in-some (λ y. slot y ≡ i) (Some (λ f. (slot f ≡ i) × (major f ≡ m .frame .number) × Sampled f m) (reals rs)) (reals g) s (λ y j z.
         let r = real-in g y j in
         some-in (λ f. (slot f ≡ i) × (major f ≡ m .frame .number) × Sampled f m) (reals rs) y (in-real rs y (w y (r .0)) (r .1)) (z, sym (stands y (r .0) .number), stands y (r .0) .mag (r .1))))
-        (λ (n : Every (λ y. slot y ≡ i → ⊥) (reals g)). absurd (true≢false (sym e ∙ p .0 .no-mag i l n .unmarked))) (found (λ (x : Kept). slot x) i (reals g));
-    unmarked = λ i l e. p .0 .no-mag i l (in-every (λ y. slot y ≡ i → ⊥) (reals g) (λ y j z.
+        (λ (n : Every (λ y. slot y ≡ i → ⊥) (reals g)). absurd (true≢false (sym e ∙ p .no-mag i l n .unmarked))) (found (λ (x : Kept). slot x) i (reals g));
+    unmarked = λ i l e. p .no-mag i l (in-every (λ y. slot y ≡ i → ⊥) (reals g) (λ y j z.
         let r = real-in g y j in
         true≢false (sym (stands y (r .0) .mag (r .1) .marked) ∙ ap (λ (n : ℕ). bitSet (m .frame .«mag_slots») n) z ∙ e)));
   }
     where
       stands : (y : Kept) → In y g → Slotted y m
-      stands y j = every-in (λ f. Slotted f m) g y (p .0 .own) j
+      stands y j = every-in (λ f. Slotted f m) g y (p .own) j
 
-  module _ (gs : List (List Kept)) (os : List ClosedMajor) (whole : flat gs ≡ rs) (parts : Pairwise Slotting gs os) where
+  module _ (gs : List (List Kept)) (os : List ClosedMajor) (whole : flat gs ≡ rs) (parts : Pairwise MajorFilled gs os) where
     major-once : Every (λ f. ExactlyOne (OwnMajor f) os) rs
-    major-once = in-every _ rs (λ f i. once-in Slotting rs (OwnMajor f) f (slot-own f) (own-slot f i) (λ x. at x) gs os c parts (among-all rs (flat gs) whole) (subst⁻¹ (Rising at c) whole counts) (subst⁻¹ (In f) whole i))
+    major-once = in-every _ rs (λ f i. once-in MajorFilled rs (OwnMajor f) f (slot-own f) (own-slot f i) (λ x. at x) gs os c parts (among-all rs (flat gs) whole) (subst⁻¹ (Rising at c) whole counts) (subst⁻¹ (In f) whole i))
 
     major-slotted : Every (λ f. Every (λ m. OwnMajor f m → Slotted f m) os) rs
-    major-slotted = in-every _ rs (λ f i. each Slotting rs (λ m. OwnMajor f m → Slotted f m) (λ g m p w o. every-in (λ f. Slotted f m) g f (p .0 .own) (own-slot f i g m p w o)) gs os parts (among-all rs (flat gs) whole))
+    major-slotted = in-every _ rs (λ f i. each MajorFilled rs (λ m. OwnMajor f m → Slotted f m) (λ g m p w o. every-in (λ f. Slotted f m) g f (p .own) (own-slot f i g m p w o)) gs os parts (among-all rs (flat gs) whole))
 
     majors-unmixed : Every (UnmixedMajor rs) os
-    majors-unmixed = each Slotting rs (UnmixedMajor rs) unmixed-slots gs os parts (among-all rs (flat gs) whole)
+    majors-unmixed = each MajorFilled rs (UnmixedMajor rs) unmixed-slots gs os parts (among-all rs (flat gs) whole)
 
 pub once-each : (xs : List Fate) (b : Buffers) (c k : ℕ) (t : Trace) → Stream c k xs b t → Allowed fresh b (fed xs) t → OnceEach k xs t
 once-each xs b c k t w a =
@@ -227,15 +212,14 @@ once-each xs b c k t w a =
     let counts = rising-counts ks c k 0 chained in
     let real-counts = rising-reals at ks c counts in
     let serials = rising-serials ks c k 0 chained in
-    let known = all-known ks c k 0 chained in
+    let known = all-typed ks c k 0 chained in
     let parts = all-tied Joined Parted Filled (d .parts) (accumulations t) (d .parts-cut) (d .parts-out) in
-    let slots = all-tied Beside Behind MajorFilled (d .major-parts) (majors t) (d .major-cut) (d .major-out) in
     record {
       one = own-once rs c k real-counts serials known (d .parts) (accumulations t) (d .parts-whole) parts;
       there = own-stands rs c k real-counts serials known (d .parts) (accumulations t) (d .parts-whole) parts;
       unmixed = all-unmixed rs c k real-counts serials known (d .parts) (accumulations t) (d .parts-whole) parts;
       torn = torn-where rs c k real-counts serials known (d .parts) (accumulations t) (d .parts-whole) parts (d .parts-cut);
-      one-major = major-once ks c counts (d .major-parts) (majors t) (d .major-whole) slots;
-      there-major = major-slotted ks c counts (d .major-parts) (majors t) (d .major-whole) slots;
-      unmixed-major = majors-unmixed ks c counts (d .major-parts) (majors t) (d .major-whole) slots;
+      one-major = major-once ks c counts (d .major-parts) (majors t) (d .major-whole) (d .major-out);
+      there-major = major-slotted ks c counts (d .major-parts) (majors t) (d .major-whole) (d .major-out);
+      unmixed-major = majors-unmixed ks c counts (d .major-parts) (majors t) (d .major-whole) (d .major-out);
     }

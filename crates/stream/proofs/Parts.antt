@@ -20,18 +20,17 @@ use Rattle.cells.specs.Laying.{cellsSize}
 use Rattle.cells.proofs.Laws.{length-frame}
 use Rattle.state.specs.Clock.{later, accepted}
 use Rattle.state.specs.Major.{frameSamples, slotOf}
-use Rattle.state.specs.List.{listed}
+use Rattle.state.specs.List.{listed, fresh}
 use Rattle.state.specs.Deciding.{Input, stateHolds, clockHolds, guardHolds, numberOf, acceptedAt, decidedOf, answerNumber}
 use Rattle.state.specs.Ending.{endedOf}
 use Rattle.state.specs.Keeping.{Sound}
 use Rattle.state.specs.declared.State.{State}
 use Rattle.state.specs.declared.clock.Clock.{Clock}
 use Rattle.state.specs.declared.deciding.Decided.{Decided}
-use Rattle.state.proofs.Numbers.{number-is}
-use Rattle.state.proofs.Told.{accepted-is}
-use Rattle.state.proofs.Keeping.{step-sound, never-13}
+use Rattle.state.proofs.Numbers.{number-is, accepted-is}
+use Rattle.state.proofs.Keeping.{step-sound, never-13, fresh-sound}
 use Rattle.reader.specs.Buffers.{copiedBy}
-use Rattle.reader.proofs.Lengths.{sizes}
+use Rattle.reader.proofs.Lengths.{Sizes, sizes}
 use Rattle.reader.specs.Steps.{Buffers, sizedBy, sized, input, cellsAfter, samplesAfter}
 use Rattle.stream.specs.Running.{Call, step, called, run, traceOf, accumulations, majors}
 use Rattle.stream.specs.Sending.{next, Fate, kept, removed, extra, Sends, fed, ExtraRefused, KeptAccepted, Kept, keptOf}
@@ -39,19 +38,12 @@ use Rattle.stream.proofs.Runs.{answered, finished}
 use Rattle.stream.proofs.Calls.{accumulate, collect, cells-out, samples-out, refused-call, cells-call, samples-call}
 
 -- "buffers of the right sizes"
-pub record Lengths (b : Buffers) : Type 0 where
-  pub cells-open : length (b .openCells) ≡ cellsSize
-  pub cells-finished : length (b .finishedCells) ≡ cellsSize
-  pub samples-open : length (b .openSamples) ≡ frameSamples
-  pub samples-finished : length (b .finishedSamples) ≡ frameSamples
-
-pub lengths : (b : Buffers) → sized b ≡ true → Lengths b
-lengths b e = let z = sizes (length (b .openCells)) (length (b .finishedCells)) (length (b .openSamples)) (length (b .finishedSamples)) e in
-    record { cells-open = z .cells; cells-finished = z .finished-cells; samples-open = z .samples; samples-finished = z .finished-samples }
+abbrev pub Lengths : Buffers → Type 0
+Lengths b = Sizes (length (b .openCells)) (length (b .finishedCells)) (length (b .openSamples)) (length (b .finishedSamples))
 
 pub is-sized : (b : Buffers) → Lengths b → sized b ≡ true
 unfolding sizedBy
-is-sized b z = rw (z .cells-open, z .cells-finished, z .samples-open, z .samples-finished)
+is-sized b z = rw (z .cells, z .finished-cells, z .samples, z .finished-samples)
 
 -- the sizes stay
 copied-size : {A : Type 0} (t : Bool) (c d : List A) (n : ℕ) → length c ≡ n → length d ≡ n → length (copiedBy t c d) ≡ n
@@ -77,10 +69,10 @@ unfolding called
 call-sized s b r z =
     let x = decidedOf (input s b r) in
     record {
-      cells-open = cells-size (x .cells .lays) (x .cells .clears) (packetBytes r) (b .openCells) (z .cells-open);
-      cells-finished = copied-size (x .cells .copies) (b .openCells) (b .finishedCells) cellsSize (z .cells-open) (z .cells-finished);
-      samples-open = samples-size (x .samples .lays) (x .samples .clears) (packetBytes r) (slotOf (recordOf r .count)) (b .openSamples) (omega arith) (z .samples-open);
-      samples-finished = copied-size (x .samples .copies) (b .openSamples) (b .finishedSamples) frameSamples (z .samples-open) (z .samples-finished);
+      cells = cells-size (x .cells .lays) (x .cells .clears) (packetBytes r) (b .openCells) (z .cells);
+      finished-cells = copied-size (x .cells .copies) (b .openCells) (b .finishedCells) cellsSize (z .cells) (z .finished-cells);
+      samples = samples-size (x .samples .lays) (x .samples .clears) (packetBytes r) (slotOf (recordOf r .count)) (b .openSamples) (omega arith) (z .samples);
+      finished-samples = copied-size (x .samples .copies) (b .openSamples) (b .finishedSamples) frameSamples (z .samples) (z .finished-samples);
     }
 
 -- a reader that a record from count c on is later for
@@ -88,6 +80,10 @@ pub record Ready (s : State) (b : Buffers) (c : ℕ) : Type 0 where
   pub sound : Sound s
   pub sized : Lengths b
   pub ahead : (d : ℕ) → c ≤ d → later (s .clock) d ≡ true
+
+pub start : (b : Buffers) (c : ℕ) → sized b ≡ true → Ready fresh b c
+unfolding later
+start b c z = record { sound = fresh-sound; sized = sizes (length (b .openCells)) (length (b .finishedCells)) (length (b .openSamples)) (length (b .finishedSamples)) z; ahead = λ d l. refl }
 
 -- it accepts a record that passes rules 2 to 11
 pub accepts : (s : State) (b : Buffers) (r : List ℕ) → Sound s → Lengths b → broken r ≡ 0 → later (s .clock) (recordOf r .count) ≡ true → numberOf (input s b r) ≡ 0
@@ -158,6 +154,6 @@ parts (kept r ∷ xs) k l c s b h w q =
     let t = run (called s b r .result .state) (called s b r .left) (fed xs) in
     record {
       accepted = (is-accepted s b r n, v .accepted);
-      cells = cells-call s b x n t (keptOf (next k r) l xs) (h .sized .cells-open) (v .cells);
-      samples = samples-call s b x n t (keptOf (next k r) l xs) (h .sized .samples-open) (v .samples);
+      cells = cells-call s b x n t (keptOf (next k r) l xs) (h .sized .cells) (v .cells);
+      samples = samples-call s b x n t (keptOf (next k r) l xs) (h .sized .samples) (v .samples);
     }

@@ -3,18 +3,18 @@
 -- Assumes nothing.
 use mathlib.Core.Path.{_≡_, refl, sym, ap, subst, subst⁻¹, _∙_}
 use mathlib.Core.Bool.{Bool, true, false, cond}
-use mathlib.Core.List.{List, [], _∷_, _++_}
+use mathlib.Core.List.{List, [], _∷_}
 use mathlib.Core.Logic.{inl, inr, ⊎-elim}
 use Prim.Native.Nat.{ℕ, _*_, _<_, _≤_}
 use native.Mathlib.Omega.{arith}
 use lib.ListN.{length, getD, getD-replicate}
+use Rattle.tables.proofs.Every.{every-joined}
 use Rattle.tables.specs.Every.{Every}
 use Rattle.record.specs.Contents.{recordOf}
 use Rattle.carriage.specs.Carriage.{types, place}
 use Rattle.carriage.proofs.EachCell.{place-cell}
 use Rattle.cells.specs.Laying.{cellsSize}
 use Rattle.listing.specs.Lines.{framesHeld, cellsHeld}
-use Rattle.state.specs.Clock.{later}
 use Rattle.state.specs.Accumulation.{joins, started}
 use Rattle.state.specs.Deciding.{numberOf, answerNumber}
 use Rattle.state.specs.declared.accumulation.AccumulationReport.{AccumulationReport}
@@ -36,7 +36,7 @@ use Rattle.stream.specs.Law.{Keeps, Meets}
 use Rattle.stream.specs.Readers.{RefusesAll, FixedAnswer, StoresNothing, Nods, NeverSaysJoins, NeverJoins, MadeUp}
 use Rattle.stream.proofs.Runs.{answered, only-call}
 use Rattle.stream.proofs.Calls.{noCells, opening, joining}
-use Rattle.stream.proofs.Parts.{Ready, accepts, moves}
+use Rattle.stream.proofs.Parts.{Ready, accepts, moves, start}
 use Rattle.stream.proofs.Pairs.{Split, Whole, of-two}
 use Rattle.stream.proofs.Made.{lent, lent-lengths, lent-sized, made, Right, five, six, real-five, real-six, sent-five, sent-six}
 
@@ -53,12 +53,8 @@ is-five = five 100 (omega arith) (omega arith)
 is-six : Right 101 6
 is-six = six 101 (omega arith) (omega arith)
 
-start : Ready fresh lent 100
-unfolding later
-start = record { sound = fresh-sound; sized = lent-lengths; ahead = λ d l. refl }
-
 first-passes : numberOf (input fresh lent (made 100 5)) ≡ 0
-first-passes = accepts fresh lent (made 100 5) fresh-sound lent-lengths (is-five .passes) (start .ahead (recordOf (made 100 5) .count) (omega (arith, is-five .counted)))
+first-passes = accepts fresh lent (made 100 5) fresh-sound lent-lengths (is-five .passes) (start lent 100 lent-sized .ahead (recordOf (made 100 5) .count) (omega (arith, is-five .counted)))
 
 abbrev now : Call
 now = called fresh lent (made 100 5)
@@ -68,7 +64,7 @@ unfolding joins first
 first-opens = opening fresh lent first first-passes (real-five 100) refl
 
 ready : Ready (now .result .state) (now .left) 101
-ready = moves fresh lent (made 100 5) 100 start (is-five .counted) first-passes
+ready = moves fresh lent (made 100 5) 100 (start lent 100 lent-sized) (is-five .counted) first-passes
 
 second-passes : numberOf (input (now .result .state) (now .left) (made 101 6)) ≡ 0
 second-passes = accepts (now .result .state) (now .left) (made 101 6) (ready .sound) (ready .sized) (is-six .passes) (ready .ahead (recordOf (made 101 6) .count) (omega (arith, is-six .counted)))
@@ -136,16 +132,11 @@ out-lent r c d e = go (r .closed)
     go true = (e, tt)
     go false = tt
 
-every-join : {A : Type 0} (P : A → Type 0) (xs ys : List A) → Every P xs → Every P ys → Every P (xs ++ ys)
-unfolding Every
-every-join P [] ys h k = k
-every-join P (x ∷ xs) ys h k = (h .0, every-join P xs ys (h .1) k)
-
 all-lent : (R : Reader) → StoresNothing R → (rs : List (List ℕ)) (s : State) (b : Buffers) → Every (λ a. a .cells ≡ b .finishedCells) (accumulations (traceOf R s b rs))
 unfolding traceOf accumulations
 all-lent R h [] s b = out-lent (R .finishes s b .result .accumulation) (R .finishes s b .left .finishedCells) (b .finishedCells) (ap (λ (x : Buffers). x .finishedCells) (h .finishes s b))
 all-lent R h (r ∷ rs) s b =
-    every-join (λ a. a .cells ≡ b .finishedCells) _ _
+    every-joined (λ a. a .cells ≡ b .finishedCells) _ _
     (out-lent (R .steps s b r .result .accumulation) (R .steps s b r .left .finishedCells) (b .finishedCells) (ap (λ (x : Buffers). x .finishedCells) (h .steps s b r)))
     (subst⁻¹ (λ (x : Buffers). Every (λ a. a .cells ≡ b .finishedCells) (accumulations (traceOf R (R .steps s b r .result .state) x rs))) (h .steps s b r) (all-lent R h rs (R .steps s b r .result .state) b))
 

@@ -1,8 +1,8 @@
 -- The real-time records among others.
 -- Assumes nothing.
-use mathlib.Core.Path.{_≡_, refl}
-use mathlib.Core.Bool.{Bool, true, false}
-use mathlib.Core.List.{List, [], _∷_}
+use mathlib.Core.Path.{_≡_, refl, ap}
+use mathlib.Core.Bool.{Bool, true, false, cond}
+use mathlib.Core.List.{List, [], _∷_, _++_}
 use Prim.Native.Nat.{ℕ, _+_}
 use native.Mathlib.Omega.{arith}
 use Rattle.tables.specs.Every.{Every}
@@ -16,6 +16,15 @@ reals-more x xs e = rw e
 pub reals-same : (x : Kept) (xs : List Kept) → realTime (x .bytes) ≡ false → reals (x ∷ xs) ≡ reals xs
 unfolding reals
 reals-same x xs e = rw e
+
+pub reals-append : (g h : List Kept) → reals (g ++ h) ≡ reals g ++ reals h
+unfolding reals
+reals-append [] h = refl
+reals-append (x ∷ g) h = go (realTime (x .bytes)) (reals-append g h)
+  where
+    go : (t : Bool) → reals (g ++ h) ≡ reals g ++ reals h → cond t (x ∷ reals (g ++ h)) (reals (g ++ h)) ≡ cond t (x ∷ reals g) (reals g) ++ reals h
+    go true e = ap (λ (z : List Kept). x ∷ z) e
+    go false e = e
 
 -- what each has, each real-time one has
 pub every-reals : (P : Kept → Type 0) (xs : List Kept) → Every P xs → Every P (reals xs)

@@ -10,11 +10,11 @@ use native.Mathlib.Nat.{zero-add}
 use lib.Dec.{ltb, leb}
 use lib.Pow.{pow-pos}
 use borrow.Author.Tests.{ltb-true, leb-true, lt-ltb, le-leb, ne-eqb, leb-false}
+use Rattle.tables.proofs.Conds.{two}
 use Rattle.tables.specs.Marks.{marked}
 use Rattle.carriage.specs.Carriage.{types}
 use Rattle.state.specs.Accumulation.{isOpen, noAccumulation, gap, fewest, most, joins, joined, passed}
 use Rattle.state.specs.declared.accumulation.Accumulation.{Accumulation}
-use Rattle.state.proofs.Facts.{two}
 use Rattle.stream.specs.Running.{ClosedAccumulation}
 use Rattle.stream.specs.Sending.{realTime, next, Kept, reals}
 use Rattle.stream.specs.Cutting.{at, typeOf, lostBetween, tears, Joined, Parted}

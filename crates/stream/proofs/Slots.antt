@@ -32,7 +32,7 @@ use Rattle.stream.specs.Sending.{realTime, Kept, reals}
 use Rattle.stream.specs.Cutting.{at, major, Beside}
 use Rattle.stream.specs.Filling.{packet, slot, Sampled, Slotted, MajorFilled}
 use Rattle.stream.proofs.Calls.{samplesWith, noSamples, majorWith}
-use Rattle.stream.proofs.Grouping.{all-share}
+use Rattle.stream.proofs.Grouping.{all-share, rising-links}
 use Rattle.stream.proofs.Marking.{marksFrom, Rising, Free, free-below, fits-more, marks-stay, marks-first, marks-count}
 use Rattle.stream.proofs.Reals.{reals-more, every-reals, rising-reals}
 use Rattle.stream.proofs.Frames.{majorFrom, samplesFrom, majorOf}
@@ -197,17 +197,11 @@ unfolding samplesFrom
 samples-length [] s e = e
 samples-length (f ∷ fs) s e = samples-length fs (samplesWith f s) (laid-length f s e)
 
--- the slots of one major frame rise
-rises : (fs : List Kept) (p : Kept) → Linked Beside p fs → Rising slot (slot p + 1) fs
-unfolding Linked Rising
-rises [] p h = tt
-rises (f ∷ fs) p h = (omega (arith, h .0), rises fs f (h .1))
-
 pub major-filled : (f : Kept) (fs : List Kept) → Linked Beside f fs → MajorFilled (f ∷ fs) (majorOf (f ∷ fs))
 unfolding majorOf Rising Every ones onesIn
 major-filled f fs l =
     let g = f ∷ fs in
-    let r : Rising slot 0 g = (omega arith, rises fs f l) in
+    let r : Rising slot 0 g = (omega arith, rising-links (λ (x : Kept). slot x) Beside (λ p f j. omega (arith, j)) fs f l) in
     let b : Before (major f) 0 noMajor noSamples g =
     record {
       rising = r;

@@ -1,17 +1,17 @@
 -- Numbers summed over what is handed out are those of the records in it.
 -- Assumes nothing.
 use mathlib.Core.Path.{_≡_, refl, sym, ap, _∙_}
-use mathlib.Core.Bool.{Bool, true, false, cond}
 use mathlib.Core.List.{List, [], _∷_, _++_}
 use Prim.Native.Nat.{ℕ, _+_, _*_}
 use native.Mathlib.Omega.{arith}
 use lib.ListN.{length, length-append}
+use Rattle.stream.proofs.Reals.{reals-append}
 use Rattle.carriage.specs.Carriage.{scienceSize}
 use Rattle.mag.specs.Samples.{samplesSize}
 use Rattle.listing.specs.Lines.{cellsHeld, slotsHeld, samplesHeld}
 use Rattle.stream.specs.Lists.{Pairwise, flat, sum}
 use Rattle.stream.specs.Running.{ClosedAccumulation, ClosedMajor}
-use Rattle.stream.specs.Sending.{realTime, Kept, reals}
+use Rattle.stream.specs.Sending.{Kept, reals}
 use Rattle.stream.specs.Filling.{Filled, MajorFilled}
 
 -- w counts the records of a list
@@ -23,15 +23,6 @@ module _ {O : Type 0} (P : List Kept → O → Type 0) (f : O → ℕ) (w : List
   sum-is [] (o ∷ os) h = absurd h
   sum-is (g ∷ gs) [] h = absurd h
   sum-is (g ∷ gs) (o ∷ os) h = omega (arith, is g o (h .0), sum-is gs os (h .1), more g (flat gs))
-
-reals-append : (g h : List Kept) → reals (g ++ h) ≡ reals g ++ reals h
-unfolding reals
-reals-append [] h = refl
-reals-append (x ∷ g) h = go (realTime (x .bytes)) (reals-append g h)
-  where
-    go : (t : Bool) → reals (g ++ h) ≡ reals g ++ reals h → cond t (x ∷ reals (g ++ h)) (reals (g ++ h)) ≡ cond t (x ∷ reals g) (reals g) ++ reals h
-    go true e = ap (λ (z : List Kept). x ∷ z) e
-    go false e = e
 
 reals-none : length (reals []) ≡ 0
 unfolding reals

@@ -21,7 +21,8 @@ abbrev pub round : Kept → ℕ
 round f = f .serial / types
 
 -- how many counts between that of p and that of f, kept later, weren't accepted: each count was sent once, those kept were
--- accepted, and the lost ones only grow (`between` in proofs/Chains.antt: neighbours are so many counts apart, and one)
+-- accepted, and the lost ones only grow. Neighbours are so many counts apart, and one (`between` in proofs/Chains.antt); for
+-- neighbouring real-time records it is 01's g (`gap-is` in proofs/Rounds.antt)
 abbrev pub lostBetween : Kept → Kept → ℕ
 lostBetween p f = f .lost - p .lost
 

@@ -3,12 +3,12 @@
 use Prim.Native.Nat.{ℕ}
 use mathlib.Core.List.{List}
 use Rattle.state.specs.List.{fresh}
+use Rattle.state.specs.declared.State.{State}
 use Rattle.reader.specs.Steps.{Buffers}
 use Rattle.stream.specs.Running.{Reader, Trace, traceOf, StepAllowed, EndAllowed, Allowed}
 use Rattle.stream.specs.Sending.{Fate, fed, Stream}
 use Rattle.stream.specs.Demand.{Demand3}
 use Rattle.stream.specs.Once.{OnceEach}
-use Rattle.state.specs.declared.State.{State}
 
 -- "feed what remains in order to a fresh reader with buffers of the right sizes, each handed on as the last call left it, and
 -- finish once. Then ...": proved as `law` in proofs/Law.antt

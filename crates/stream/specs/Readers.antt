@@ -1,5 +1,6 @@
--- What 01's "How far the statements reach" says that a reader must not be. The first two break demand 2, the others demand 3
--- (proofs/Readers.antt: no reader that keeps the promises is one of the first two, none that meets demand 3 one of the others).
+-- What 01's "How far the statements reach" says that a reader must not be. `RefusesAll`, `FixedAnswer` and `NeverSaysJoins` break
+-- demand 2, the others demand 3 (proofs/Readers.antt: no reader that keeps the promises is one of the former, and none that meets
+-- demand 3 one of the latter).
 -- Assumes nothing.
 use Prim.Native.Nat.{ℕ, _<_, _≤_}
 use mathlib.Core.List.{List}

@@ -29,7 +29,7 @@ pub record SentAt (c k : ℕ) (r : List ℕ) : Type 0 where
 abbrev pub next : ℕ → List ℕ → ℕ
 next k r = cond (realTime r) (k + 1) k
 
--- "Remove any, or spoil them so that each is refused"
+-- "Remove any, or spoil them so that each is refused": one that is spoiled is removed, with an extra in its place
 pub data Fate : Type 0 where
   -- sent, and fed
   kept : List ℕ → Fate
@@ -44,10 +44,6 @@ Sends c k [] = Unit {0}
 Sends c k (kept r ∷ xs) = SentAt c k r × Sends (c + 1) (next k r) xs
 Sends c k (removed r ∷ xs) = SentAt c k r × Sends (c + 1) (next k r) xs
 Sends c k (extra x ∷ xs) = Sends c k xs
-
--- the record r spoiled, so that x is fed in its place
-abbrev pub spoiled : List ℕ → List ℕ → List Fate → List Fate
-spoiled r x xs = removed r ∷ extra x ∷ xs
 
 -- "feed what remains in order"
 unfoldable pub fed : List Fate → List (List ℕ)

@@ -5,3 +5,4 @@ pub mod Single
 pub mod Order
 pub mod Marks
 pub mod Arms
+pub mod Every

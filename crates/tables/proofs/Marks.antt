@@ -3,7 +3,7 @@
 use mathlib.Core.Path.{_≡_, refl, sym, ap, _∙_}
 use mathlib.Core.Bool.{Bool, true, false}
 use Prim.Native.Nat.{ℕ, zero, suc, _+_, _-_, _*_, _/_, _%_, _^_, _<_, _≤_}
-use native.Mathlib.Nat.{add-comm, add-zero, add-suc, one-mul, pow-suc, div-eq-of-lt, mod-eq-of-lt, add-mul-div-right, div-lt-iff-lt-mul, le-div-iff-mul-le}
+use native.Mathlib.Nat.{add-comm, add-zero, add-suc, one-mul, pow-suc, div-eq-of-lt, mod-eq-of-lt, add-mul-div-right, div-lt-iff-lt-mul}
 use native.Mathlib.Numerals.{add-one}
 use native.Mathlib.Omega.{arith}
 use lib.Count.{ones, onesIn, ones-cat}
@@ -17,10 +17,6 @@ pub weight : (w u : ℕ) → u < w → 1 * 2 ^ u % 2 ^ w ≡ 2 ^ u
 weight w u h = ap (λ (x : ℕ). x % 2 ^ w) (one-mul (2 ^ u)) ∙ mod-eq-of-lt (pow-lt h)
 
 -- what the highest mark says of the number
-pub highest-low : (n k : ℕ) → highest n k ≡ true → 2 ^ k ≤ n
-unfolding highest
-highest-low n k e = let q = eqb-true (n / 2 ^ k) 1 e in omega (arith, le-div-iff-mul-le {x = 1} {y = n} (pow-pos k) .0 (omega arith))
-
 pub highest-high : (n k : ℕ) → highest n k ≡ true → n < 2 ^ (k + 1)
 unfolding highest
 highest-high n k e = let q = eqb-true (n / 2 ^ k) 1 e in rw (add-one k) (omega (arith, pow-suc 2 k, div-lt-iff-lt-mul {x = n} {y = 2} (pow-pos k) .0 (omega arith)))

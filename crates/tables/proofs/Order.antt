@@ -11,7 +11,7 @@ use borrow.Author.Tests.{eq-eqb, ne-eqb, ltb-true, ltb-false}
 use Rattle.tables.specs.Rules.{Rule, ofPart, firstBroken, holdsIn, FirstBroken}
 
 -- true and false are two
-pub never : {t : Bool} → t ≡ true → t ≡ false → ⊥
+never : {t : Bool} → t ≡ true → t ≡ false → ⊥
 never p q = true≢false (sym p ∙ q)
 
 module _ {A : Type 0} where

@@ -33,12 +33,12 @@ unfolding both
 upto-all f zero h = refl
 upto-all f (suc n) h = rw (h n (omega arith), upto-all f n (λ k l. h k (omega arith)))
 
+pub is-true : (b : Bool) → T b → b ≡ true
+is-true true t = refl
+is-true false t = absurd t
+
 pub upto-true : (f : ℕ → Bool) (n : ℕ) → upto f n ≡ true → (k : ℕ) → k < n → f k ≡ true
 upto-true f n e k h = is-true (f k) (upto-at f n (subst T (sym e) tt) k h)
-  where
-    is-true : (b : Bool) → T b → b ≡ true
-    is-true true t = refl
-    is-true false t = absurd t
 
 -- a test that fails at one
 pub upto-false : (f : ℕ → Bool) (n k : ℕ) → k < n → f k ≡ false → upto f n ≡ false

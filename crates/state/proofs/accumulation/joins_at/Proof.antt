@@ -1,8 +1,7 @@
 -- `state::accumulation::joins_at` meets its contract.
 -- Assumes nothing.
-use borrow.Author.Tests.{eq-eqb, ne-eqb, le-leb, lt-leb, lt-ltb, le-ltb}
+use borrow.Author.Tests.{eq-eqb, ne-eqb, le-leb, lt-leb, lt-ltb, le-ltb, not-false}
 use Rattle.state.specs.Accumulation.{joins}
-use Rattle.state.proofs.Clauses.{not-false}
 use Rattle.state.proofs.Joining.{other-apart}
 use native.Mathlib.Omega.{arith}
 use borrow.Author.Needs.{needs}

@@ -1,12 +1,13 @@
 -- `state::deciding::decide` meets its contract.
 -- Assumes nothing.
+use borrow.Author.Tests.{not-false}
 use Rattle.state.proofs.Numbers.{unlisted, record-refused, record-decided, type-below}
 use denote.Ref.{now}
 use mathlib.Core.Path.{sym, ap₂, _∙_}
 use Rattle.record.proofs.Opened.{sized}
 use Rattle.record.proofs.Told.{fields-told, number-told}
 use Rattle.state.specs.List.{listed}
-use Rattle.state.proofs.Clauses.{not-false, held, fails, above-0}
+use Rattle.state.proofs.Clauses.{held, fails, above-0}
 use Rattle.state.proofs.Joining.{other-apart}
 use Rattle.state.specs.Deciding.{decidedBy}
 use borrow.Author.Needs.{needs}

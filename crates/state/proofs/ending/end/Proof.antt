@@ -1,8 +1,9 @@
 -- `state::ending::end` meets its contract.
 -- Assumes nothing.
 use mathlib.Core.Path.{sym}
+use borrow.Author.Tests.{not-false}
 use Rattle.state.specs.List.{listed}
-use Rattle.state.proofs.Clauses.{not-false, held, fails}
+use Rattle.state.proofs.Clauses.{held, fails}
 use Rattle.state.proofs.Joining.{other-apart}
 use Rattle.state.proofs.Ends.{is-unended, is-ended}
 use borrow.Author.Needs.{needs}
