@@ -11,6 +11,7 @@ pub mod Rounds
 pub mod Cells
 pub mod Frames
 pub mod Slots
+pub mod Counting
 pub mod Sums
 pub mod Demand
 pub mod Once

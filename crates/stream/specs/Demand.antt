@@ -1,25 +1,30 @@
 -- Demand 3, by the parts that the kept records are cut into.
 -- Assumes nothing.
 use Prim.Native.Nat.{ℕ, _*_}
+use mathlib.Core.Bool.{cond}
 use mathlib.Core.List.{List}
 use mathlib.Core.Path.{_≡_}
 use lib.ListN.{length}
 use Rattle.tables.specs.Every.{Every}
-use Rattle.carriage.specs.Carriage.{scienceSize}
+use Rattle.carriage.specs.Carriage.{scienceSize, cells}
+use Rattle.cells.specs.Raw.{holdsCell}
 use Rattle.mag.specs.Samples.{samplesSize}
 use Rattle.listing.specs.Lines.{cellsHeld, slotsHeld, samplesHeld}
 use Rattle.state.specs.Keeping.{Sound}
-use Rattle.stream.specs.Lists.{Pairwise, flat, sum}
+use Rattle.stream.specs.Lists.{Pairwise, flat, sum, total}
 use Rattle.stream.specs.Running.{Trace, accumulations, majors, states}
 use Rattle.stream.specs.Sending.{Fate, KeptAccepted, Kept, unspoiled, realUnspoiled}
 use Rattle.stream.specs.Cutting.{AccumulationCut, MajorCut}
 use Rattle.stream.specs.Filling.{Filled, MajorFilled}
 
--- "the cells filled number 83 times the real-time frames left unspoiled": the cells of the listing's accum lines
+-- "the cells filled": those whose frame is held (`Unmixed` in specs/Once.antt says what stands in them)
+abbrev pub cellsFilled : Trace → ℕ
+cellsFilled t = sum (λ a. total (λ p. cond (holdsCell (a .report .held) p) 1 0) cells) (accumulations t)
+
+-- the cells of the listing's accum lines, and of its major lines the cells and the frames
 abbrev pub cellsListed : Trace → ℕ
 cellsListed t = sum (λ a. cellsHeld (a .report)) (accumulations t)
 
--- and of its major lines the cells, 54 times those frames, and the frames, the records left unspoiled
 abbrev pub samplesListed : Trace → ℕ
 samplesListed t = sum (λ m. samplesHeld (m .frame)) (majors t)
 
@@ -41,6 +46,9 @@ pub record Demand3 (k : ℕ) (xs : List Fate) (t : Trace) : Type 0 where
   pub major-whole : flat major-parts ≡ unspoiled k xs
   pub major-cut : MajorCut major-parts
   pub major-out : Pairwise MajorFilled major-parts (majors t)
+  -- "the cells filled number 83 times the real-time frames left unspoiled", and the listing's numbers sum to 83 and 54 times them
+  -- and to the records left
+  pub cells-filled : cellsFilled t ≡ scienceSize * length (realUnspoiled k xs)
   pub cells-sum : cellsListed t ≡ scienceSize * length (realUnspoiled k xs)
   pub samples-sum : samplesListed t ≡ samplesSize * length (realUnspoiled k xs)
   pub slots-sum : slotsListed t ≡ length (unspoiled k xs)

@@ -1,6 +1,6 @@
 -- What is said of lists, over any elements.
 -- Assumes nothing.
-use Prim.Native.Nat.{ℕ, _+_}
+use Prim.Native.Nat.{ℕ, zero, suc, _+_}
 use mathlib.Core.List.{List, [], _∷_, _++_}
 use mathlib.Core.Logic.{_⊎_}
 use mathlib.Core.Path.{_≡_}
@@ -37,6 +37,11 @@ flat (g ∷ gs) = g ++ flat gs
 unfoldable pub sum : {A : Type 0} → (A → ℕ) → List A → ℕ
 sum f [] = 0
 sum f (x ∷ xs) = f x + sum f xs
+
+-- f 0 + f 1 + .. + f (n - 1)
+unfoldable pub total : (ℕ → ℕ) → ℕ → ℕ
+total f zero = 0
+total f (suc n) = total f n + f n
 
 -- p and those behind it: neighbours are related
 unfoldable pub Linked : {A : Type 0} → (A → A → Type 0) → A → List A → Type 0
