@@ -7,9 +7,9 @@ use lib.Dec.{ltb, leb}
 use lib.Ieee.{round}
 use Rattle.tables.specs.Every.{Every}
 use Rattle.bits.specs.Numbers.{bitOf, bit, join, number}
+use Rattle.mag.specs.Field.{hasField, fieldOf}
 use Rattle.counts.specs.Codes.{lowest, highest, divisor, rangeOf}
 use Rattle.angles.specs.Angles.{lines, angleAt}
-use Rattle.mag.specs.Field.{hasField, fieldOf}
 use Rattle.state.specs.Accumulation.{isOpen, fewest, most, gap, joins}
 use Rattle.state.specs.declared.accumulation.Accumulation.{Accumulation}
 use Rattle.sixteen.specs.Examples.{Holds, table}

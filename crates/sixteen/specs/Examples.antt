@@ -1,18 +1,18 @@
 -- 01, "Sixteen examples to be proved": one table, and what a row of it says of the definitions. Proved of every row by `sixteen`
 -- in proofs/Examples.antt.
 -- Assumes nothing.
-use Prim.Native.Nat.{ℕ}
+use mathlib.Core.Path.{_≡_}
 use mathlib.Core.Bool.{Bool, true, false}
 use mathlib.Core.List.{List, [], _∷_}
-use mathlib.Core.Path.{_≡_}
-use lib.IntN.{ℤ, pos, negsuc}
+use Prim.Native.Nat.{ℕ}
 use lib.Ieee.Exact.{HasValue}
+use lib.IntN.{ℤ, pos, negsuc}
 use Rattle.bits.specs.Numbers.{Order, least, most, twelve}
+use Rattle.mag.specs.Samples.{signed}
+use Rattle.mag.specs.Field.{hasField, fieldOf}
 use Rattle.counts.specs.Codes.{rangeOf}
 use Rattle.counts.specs.declared.codes.Divided.the-variants.{By1}
 use Rattle.angles.specs.Angles.{hasBin, angleAt}
-use Rattle.mag.specs.Samples.{signed}
-use Rattle.mag.specs.Field.{hasField, fieldOf}
 use Rattle.state.specs.Accumulation.{isOpen, gap, joins}
 use Rattle.state.specs.declared.accumulation.Accumulation.{Accumulation}
 

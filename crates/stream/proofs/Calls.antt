@@ -8,7 +8,6 @@ use Prim.Native.Nat.{ℕ, _*_, _<_}
 use native.Mathlib.Omega.{arith}
 use lib.IntN.{ℤ, pos}
 use lib.ListN.{length, replicate}
-use Rattle.state.proofs.Numbers.{accepted-is, refused-is}
 use Rattle.buffers.specs.Laying.{patch}
 use Rattle.record.specs.Layout.{packetBytes, frameCode, magBytes, scienceBytes}
 use Rattle.record.specs.Contents.{recordOf}
@@ -27,6 +26,7 @@ use Rattle.state.specs.declared.deciding.Decided.{Decided}
 use Rattle.state.specs.declared.major.Major.{Major}
 use Rattle.state.specs.declared.major.MajorReport.{MajorReport}
 use Rattle.state.specs.declared.major.MajorStep.{MajorStep}
+use Rattle.state.proofs.Numbers.{accepted-is, refused-is}
 use Rattle.reader.specs.Buffers.{copiedBy}
 use Rattle.reader.specs.Steps.{Buffers, input, cellsAfter, samplesAfter}
 use Rattle.stream.specs.Running.{Call, Trace, step, ClosedAccumulation, ClosedMajor, called, accumulationOut, majorOut, accumulations, majors}

@@ -9,10 +9,9 @@ use native.Mathlib.Omega.{arith}
 use lib.Count.{ones, onesIn}
 use lib.ListN.{length, getD, getD-replicate, length-replicate}
 use lib.Pow.{pow-pos}
-use Rattle.tables.proofs.Every.{every-map}
-use Rattle.stream.proofs.Grouping.{rising-links}
-use Rattle.stream.proofs.Chains.{Typed}
 use Rattle.tables.specs.Marks.{marked}
+use Rattle.tables.specs.Every.{Every}
+use Rattle.tables.proofs.Every.{every-map}
 use Rattle.tables.proofs.Marks.{bits-above}
 use Rattle.record.specs.Layout.{frameCode, scienceBytes}
 use Rattle.record.specs.Contents.{recordOf}
@@ -20,12 +19,13 @@ use Rattle.carriage.specs.Carriage.{types, scienceSize, cells, place}
 use Rattle.carriage.proofs.EachCell.{place-cell, carrier-place}
 use Rattle.cells.specs.Laying.{cellsSize, topPair, pairCell, pairWeight, pairIn, pairAt}
 use Rattle.cells.proofs.Laws.{length-frame, own-cell, other-cell, own-pair, other-pair}
-use Rattle.tables.specs.Every.{Every}
 use Rattle.stream.specs.Lists.{Linked}
 use Rattle.stream.specs.Running.{ClosedAccumulation}
 use Rattle.stream.specs.Sending.{Kept}
 use Rattle.stream.specs.Cutting.{typeOf, Joined}
 use Rattle.stream.specs.Filling.{packet, Stands, Filled}
+use Rattle.stream.proofs.Grouping.{rising-links}
+use Rattle.stream.proofs.Chains.{Typed}
 use Rattle.stream.proofs.Calls.{cellsWith, noCells}
 use Rattle.stream.proofs.Marking.{marksFrom, Rising, Free, free-below, fits-more, marks-stay, marks-first, marks-count, marks-below}
 use Rattle.stream.proofs.Rounds.{cellsFrom, outOf}

@@ -1,21 +1,22 @@
 -- The kept records by themselves: what the numbers of one say of the next.
 -- Assumes nothing.
-use mathlib.Core.Logic.{inl, inr}
 use mathlib.Core.Path.{_≡_, refl, subst, subst⁻¹, _∙_}
 use mathlib.Core.Bool.{Bool, true, false, cond}
 use mathlib.Core.List.{List, [], _∷_}
+use mathlib.Core.Logic.{inl, inr}
 use Prim.Native.Nat.{ℕ, _+_, _%_, _≤_, _<_}
 use native.Mathlib.Omega.{arith}
-use Rattle.stream.specs.Filling.{packet}
-use Rattle.record.specs.Layout.{frameCode}
 use lib.ListN.{drop}
 use lib.Seq.{getD-take, getD-drop}
 use Rattle.tables.specs.Every.{Every}
 use Rattle.bits.specs.Twelve.{Bytes}
+use Rattle.record.specs.Layout.{frameCode}
 use Rattle.carriage.specs.Carriage.{types}
+use Rattle.stream.specs.Filling.{packet}
 use Rattle.stream.specs.Lists.{Neighbours}
 use Rattle.stream.specs.Sending.{realTime, next, Fate, kept, removed, extra, Sends, Kept, keptOf, reals, unspoiled}
 use Rattle.stream.specs.Cutting.{at, typeOf, lostBetween}
+use Rattle.stream.proofs.Marking.{Rising, rising-down}
 
 -- x is the next kept: count c, real-time number k and l lost ones come before what was sent from here on
 pub record Next (c k l : ℕ) (x : Kept) : Type 0 where
@@ -90,3 +91,21 @@ all-typed (x ∷ xs) c k l h = go (realTime (x .bytes)) refl (all-typed xs (at x
     go : (t : Bool) → realTime (x .bytes) ≡ t → Every Typed (reals xs) → Every Typed (reals (x ∷ xs))
     go true e r = rw e (record { typed = n .typed e; small = omega (arith, n .typed e); code = code-below x (n .bytes) }, r)
     go false e r = rw e r
+
+-- counts rise, and the real-time numbers
+unfoldable pub serial : Kept → ℕ
+serial f = f .serial
+
+pub rising-counts : (xs : List Kept) (c k l : ℕ) → Chain c k l xs → Rising at c xs
+unfolding Chain Rising
+rising-counts [] c k l h = tt
+rising-counts (x ∷ xs) c k l h = (omega (arith, h .0 .counted, h .0 .losing), rising-counts xs (at x + 1) (next (x .serial) (x .bytes)) (x .lost) (h .1))
+
+pub rising-serials : (xs : List Kept) (c k l : ℕ) → Chain c k l xs → Rising serial k (reals xs)
+unfolding Chain Rising reals serial
+rising-serials [] c k l h = tt
+rising-serials (x ∷ xs) c k l h = go (realTime (x .bytes)) refl (rising-serials xs (at x + 1) (next (x .serial) (x .bytes)) (x .lost) (h .1))
+  where
+    go : (t : Bool) → realTime (x .bytes) ≡ t → Rising serial (next (x .serial) (x .bytes)) (reals xs) → Rising serial k (reals (x ∷ xs))
+    go true e r = rw e (h .0 .rising, rw e at r)
+    go false e r = rw e (rising-down serial (reals xs) k (x .serial) (h .0 .rising) (rw e at r))

@@ -4,19 +4,19 @@ use mathlib.Core.Path.{ap, subst, subst⁻¹, _∙_}
 use mathlib.Core.List.{List}
 use Prim.Native.Nat.{ℕ, _*_}
 use lib.ListN.{length}
-use Rattle.stream.proofs.Members.{in-every}
-use Rattle.carriage.specs.Carriage.{scienceSize}
+use Rattle.tables.specs.Every.{Every}
 use Rattle.mag.specs.Samples.{samplesSize}
+use Rattle.carriage.specs.Carriage.{scienceSize}
 use Rattle.state.specs.List.{fresh}
 use Rattle.state.proofs.Keeping.{fresh-sound}
 use Rattle.reader.specs.Steps.{Buffers}
-use Rattle.tables.specs.Every.{Every}
 use Rattle.stream.specs.Lists.{Pairwise, flat}
 use Rattle.stream.specs.Running.{Trace, run, Allowed}
 use Rattle.stream.specs.Sending.{Fate, fed, Stream, Kept, reals, unspoiled}
 use Rattle.stream.specs.Cutting.{Joined, Parted, Beside, Behind}
 use Rattle.stream.specs.Filling.{Filled, MajorFilled}
 use Rattle.stream.specs.Demand.{Demand3}
+use Rattle.stream.proofs.Members.{in-every}
 use Rattle.stream.proofs.Runs.{only-run, run-sound}
 use Rattle.stream.proofs.Parts.{parts, start}
 use Rattle.stream.proofs.Chains.{chain, all-typed, Typed}

@@ -8,8 +8,8 @@ use native.Mathlib.Omega.{arith}
 use lib.IntN.{ℤ}
 use lib.Pow.{pow-pos}
 use borrow.Author.Tests.{eqb-true, eqb-false, ne-eqb}
-use Rattle.tables.proofs.Conds.{two}
 use Rattle.tables.specs.Marks.{marked}
+use Rattle.tables.proofs.Conds.{two}
 use Rattle.state.specs.Major.{majorNumber, majorOpen, noMajor, continues, into}
 use Rattle.state.specs.declared.major.Major.{Major}
 use Rattle.stream.specs.Running.{ClosedMajor}

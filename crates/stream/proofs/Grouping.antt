@@ -5,11 +5,11 @@ use mathlib.Core.Path.{_≡_, refl, ap, subst, _∙_}
 use mathlib.Core.List.{List, [], _∷_, _++_, map, append-nil, append-assoc}
 use Prim.Native.Nat.{ℕ, _+_, _<_}
 use native.Mathlib.Omega.{arith}
-use Rattle.stream.proofs.Marking.{Rising}
-use Rattle.tables.proofs.Every.{every-apart}
 use Rattle.tables.specs.Every.{Every}
+use Rattle.tables.proofs.Every.{every-apart}
 use Rattle.stream.specs.Lists.{Pairwise, flat, Linked, final, Across, Cut}
 use Rattle.stream.specs.Sending.{Kept}
+use Rattle.stream.proofs.Marking.{Rising}
 
 -- what neighbours share, all share
 pub all-share : (key : Kept → ℕ) (R : Kept → Kept → Type 0) → ((p f : Kept) → R p f → key f ≡ key p) → (fs : List Kept) (p : Kept) → Linked R p fs → Every (λ f. key f ≡ key p) (p ∷ fs)

@@ -14,6 +14,8 @@ pub mod Slots
 pub mod Counting
 pub mod Sums
 pub mod Demand
+pub mod OwnCells
+pub mod OwnSlots
 pub mod Once
 pub mod Law
 pub mod Pairs

@@ -8,15 +8,15 @@ use native.Mathlib.Omega.{arith}
 use lib.Dec.{T, eqb, ltb, eqb→eq, ltb→lt}
 use lib.IntN.{ℤ, pos}
 use lib.ListN.{replicate, length-replicate}
-use Rattle.cells.specs.Laying.{cellsSize}
-use Rattle.bits.specs.Numbers.{bitOf, bit, join, number}
-use Rattle.bits.specs.Twelve.{Bytes}
 use Rattle.tables.specs.Upto.{both}
 use Rattle.tables.specs.Rules.{firstBroken}
 use Rattle.tables.proofs.Upto.{both-left, both-right, upto-at}
+use Rattle.bits.specs.Numbers.{bitOf, bit, join, number}
+use Rattle.bits.specs.Twelve.{Bytes}
 use Rattle.record.specs.Frame.{kindOf, kindOfType}
 use Rattle.record.specs.Rules.{rules, broken, sizeHolds, syncHolds, spacecraftHolds, rateHolds, spareHolds, dayHolds, millisecondHolds, statusSpareHolds, flagsHold, typeHolds}
 use Rattle.record.specs.Contents.{recordOf}
+use Rattle.cells.specs.Laying.{cellsSize}
 use Rattle.state.specs.Deciding.{isRealTime}
 use Rattle.state.specs.Major.{frameSamples}
 use Rattle.reader.specs.Steps.{Buffers, buffers, sized}

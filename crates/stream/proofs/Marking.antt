@@ -9,8 +9,8 @@ use lib.Count.{ones}
 use lib.ListN.{length}
 use lib.Pow.{pow-mono}
 use Rattle.tables.specs.Marks.{bitSet, marked}
-use Rattle.tables.proofs.Marks.{marked-own, marked-other, marked-below, ones-marked}
 use Rattle.tables.specs.Every.{Every}
+use Rattle.tables.proofs.Marks.{marked-own, marked-other, marked-below, ones-marked}
 use Rattle.stream.specs.Sending.{Kept}
 
 module _ (key : Kept → ℕ) where

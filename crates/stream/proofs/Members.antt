@@ -5,6 +5,7 @@ use mathlib.Core.Bool.{Bool, true, false, cond}
 use mathlib.Core.List.{List, [], _∷_, _++_}
 use mathlib.Core.Logic.{_⊎_, inl, inr, ⊎-elim}
 use Prim.Native.Nat.{ℕ, _+_, _≤_}
+use native.Mathlib.Decide.{ℕ-discrete}
 use native.Mathlib.Omega.{arith}
 use Rattle.tables.specs.Every.{Every}
 use Rattle.stream.specs.Lists.{Some, Pairwise, ExactlyOne, Neighbours, flat, final, Across, Cut}
@@ -184,3 +185,14 @@ module _ (R S : Kept → Kept → Type 0) (p f : Kept) where
   beside [] c n = absurd n
   beside ([] ∷ gs) c n = absurd c
   beside ((x ∷ xs) ∷ gs) c n = within xs x gs (c .1) (c .2) (λ m. beside gs (c .2) m) n
+
+-- one of them has it, or none
+pub found : (key : Kept → ℕ) (u : ℕ) (g : List Kept) → Some (λ f. key f ≡ u) g ⊎ Every (λ f. key f ≡ u → ⊥) g
+unfolding Some Every
+found key u [] = inr tt
+found key u (x ∷ g) = go (ℕ-discrete (key x) u) (found key u g)
+  where
+    go : Dec (key x ≡ u) → Some (λ f. key f ≡ u) g ⊎ Every (λ f. key f ≡ u → ⊥) g → Some (λ f. key f ≡ u) (x ∷ g) ⊎ Every (λ f. key f ≡ u → ⊥) (x ∷ g)
+    go (yes e) r = inl (inl e)
+    go (no e) (inl s) = inl (inr s)
+    go (no e) (inr n) = inr (e, n)

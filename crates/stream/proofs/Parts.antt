@@ -30,8 +30,8 @@ use Rattle.state.specs.declared.deciding.Decided.{Decided}
 use Rattle.state.proofs.Numbers.{number-is, accepted-is}
 use Rattle.state.proofs.Keeping.{step-sound, never-13, fresh-sound}
 use Rattle.reader.specs.Buffers.{copiedBy}
-use Rattle.reader.proofs.Lengths.{Sizes, sizes}
 use Rattle.reader.specs.Steps.{Buffers, sizedBy, sized, input, cellsAfter, samplesAfter}
+use Rattle.reader.proofs.Lengths.{Sizes, sizes}
 use Rattle.stream.specs.Running.{Call, step, called, run, traceOf, accumulations, majors}
 use Rattle.stream.specs.Sending.{next, Fate, kept, removed, extra, Sends, fed, ExtraRefused, KeptAccepted, Kept, keptOf}
 use Rattle.stream.proofs.Runs.{answered, finished}

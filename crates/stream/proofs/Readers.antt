@@ -8,8 +8,8 @@ use mathlib.Core.Logic.{inl, inr, ⊎-elim}
 use Prim.Native.Nat.{ℕ, _*_, _<_, _≤_}
 use native.Mathlib.Omega.{arith}
 use lib.ListN.{length, getD, getD-replicate}
-use Rattle.tables.proofs.Every.{every-joined}
 use Rattle.tables.specs.Every.{Every}
+use Rattle.tables.proofs.Every.{every-joined}
 use Rattle.record.specs.Contents.{recordOf}
 use Rattle.carriage.specs.Carriage.{types, place}
 use Rattle.carriage.proofs.EachCell.{place-cell}
@@ -17,13 +17,13 @@ use Rattle.cells.specs.Laying.{cellsSize}
 use Rattle.listing.specs.Lines.{framesHeld, cellsHeld}
 use Rattle.state.specs.Accumulation.{joins, started}
 use Rattle.state.specs.Deciding.{numberOf, answerNumber}
+use Rattle.state.specs.List.{fresh}
 use Rattle.state.specs.declared.accumulation.AccumulationReport.{AccumulationReport}
 use Rattle.state.specs.declared.accumulation.Gap.the-variants.{Joins}
 use Rattle.state.specs.declared.deciding.Answer.{Answer}
+use Rattle.state.specs.declared.State.{State}
 use Rattle.state.proofs.Told.{all-pass, passed-size}
 use Rattle.state.proofs.Keeping.{fresh-sound}
-use Rattle.state.specs.List.{fresh}
-use Rattle.state.specs.declared.State.{State}
 use Rattle.reader.specs.Steps.{Buffers, input}
 use Rattle.stream.specs.Running.{Reader, Call, traceOf, called, ClosedAccumulation, accumulationOut, accumulations}
 use Rattle.stream.specs.Lists.{ExactlyOne, Pairwise, sum}

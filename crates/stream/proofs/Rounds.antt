@@ -5,13 +5,13 @@ use mathlib.Core.Path.{_≡_, refl, sym, _∙_}
 use mathlib.Core.Bool.{Bool, true, false, true≢false}
 use mathlib.Core.List.{List, [], _∷_, _++_}
 use Prim.Native.Nat.{ℕ, _+_, _-_, _%_, _^_, _<_, _≤_}
-use native.Mathlib.Omega.{arith}
 use native.Mathlib.Nat.{zero-add}
+use native.Mathlib.Omega.{arith}
 use lib.Dec.{ltb, leb}
 use lib.Pow.{pow-pos}
 use borrow.Author.Tests.{ltb-true, leb-true, lt-ltb, le-leb, ne-eqb, leb-false}
-use Rattle.tables.proofs.Conds.{two}
 use Rattle.tables.specs.Marks.{marked}
+use Rattle.tables.proofs.Conds.{two}
 use Rattle.carriage.specs.Carriage.{types}
 use Rattle.state.specs.Accumulation.{isOpen, noAccumulation, gap, fewest, most, joins, joined, passed}
 use Rattle.state.specs.declared.accumulation.Accumulation.{Accumulation}

@@ -7,7 +7,7 @@ use Prim.Native.Nat.{ℕ}
 use lib.Dec.{eqb}
 use lib.IntN.{ℤ}
 use borrow.Author.Tests.{eqb-true, eqb-false}
-use Rattle.state.proofs.Numbers.{accepted-is, refused-is}
+use Rattle.tables.specs.Every.{Every}
 use Rattle.state.specs.List.{listed}
 use Rattle.state.specs.Deciding.{Input, numberOf, acceptedAt, decidedOf, answerNumber}
 use Rattle.state.specs.Ending.{ending, unended, endedOf, endNumber, endingNumber}
@@ -16,9 +16,9 @@ use Rattle.state.specs.declared.State.{State}
 use Rattle.state.specs.declared.deciding.Decided.{Decided}
 use Rattle.state.specs.declared.deciding.Stepped.{Stepped}
 use Rattle.state.specs.declared.ending.Finished.{Finished}
+use Rattle.state.proofs.Numbers.{accepted-is, refused-is}
 use Rattle.state.proofs.Keeping.{step-sound, end-sound}
 use Rattle.reader.specs.Steps.{Buffers, buffers, sized, input}
-use Rattle.tables.specs.Every.{Every}
 use Rattle.stream.specs.Running.{Call, End, Reader, Trace, step, finish, traceOf, called, defined, run, StepAllowed, Allowed, states}
 use Rattle.stream.specs.Law.{Keeps}
 

@@ -15,6 +15,7 @@ use lib.Pow.{pow-mono, pow-pos}
 use lib.Seq.{getD-set-same, getD-set-other}
 use borrow.Author.Tests.{ltb-true, ltb-false}
 use Rattle.tables.specs.Marks.{marked}
+use Rattle.tables.specs.Every.{Every}
 use Rattle.tables.proofs.Marks.{bits-above}
 use Rattle.tables.proofs.Built.{length-build, getD-build}
 use Rattle.buffers.specs.Laying.{patch}
@@ -25,7 +26,6 @@ use Rattle.mag.specs.Samples.{samplesSize, range, sample, samples}
 use Rattle.state.specs.Major.{frameSamples, noMajor, into}
 use Rattle.state.specs.Keeping.{Shaped}
 use Rattle.state.specs.declared.major.Major.{Major}
-use Rattle.tables.specs.Every.{Every}
 use Rattle.stream.specs.Lists.{Linked}
 use Rattle.stream.specs.Running.{ClosedMajor}
 use Rattle.stream.specs.Sending.{realTime, Kept, reals}

@@ -6,16 +6,16 @@ use mathlib.Core.List.{List, [], _∷_, _++_}
 use Prim.Native.Nat.{ℕ, _+_, _*_}
 use native.Mathlib.Omega.{arith}
 use lib.ListN.{length, length-append}
-use Rattle.stream.proofs.Counting.{cells-held}
-use Rattle.stream.proofs.Reals.{reals-append}
+use Rattle.mag.specs.Samples.{samplesSize}
 use Rattle.carriage.specs.Carriage.{scienceSize, cells}
 use Rattle.cells.specs.Raw.{holdsCell}
-use Rattle.mag.specs.Samples.{samplesSize}
 use Rattle.listing.specs.Lines.{cellsHeld, slotsHeld, samplesHeld}
 use Rattle.stream.specs.Lists.{Pairwise, flat, sum, total}
 use Rattle.stream.specs.Running.{ClosedAccumulation, ClosedMajor}
 use Rattle.stream.specs.Sending.{Kept, reals}
 use Rattle.stream.specs.Filling.{Filled, MajorFilled}
+use Rattle.stream.proofs.Counting.{cells-held}
+use Rattle.stream.proofs.Reals.{reals-append}
 
 -- w counts the records of a list
 module _ {O : Type 0} (P : List Kept → O → Type 0) (f : O → ℕ) (w : List Kept → ℕ)

@@ -7,9 +7,9 @@ use mathlib.Core.Logic.{_⊎_, inl, inr, ⊎-elim}
 use Prim.Native.Nat.{ℕ, zero, suc, _+_, _-_, _<_, _≤_}
 use native.Mathlib.Omega.{arith}
 use Rattle.tables.specs.Marks.{bitSet}
+use Rattle.tables.specs.Every.{Every}
 use Rattle.carriage.specs.Carriage.{types}
 use Rattle.state.specs.List.{fresh}
-use Rattle.tables.specs.Every.{Every}
 use Rattle.stream.specs.Lists.{Some, Pairwise, Neighbours}
 use Rattle.stream.specs.Running.{Trace, run, traceOf, ClosedAccumulation, accumulations}
 use Rattle.stream.specs.Sending.{next, Fate, kept, removed, Sends, fed, ExtraRefused, Stream, Kept, keptOf, reals, realUnspoiled}

@@ -1,14 +1,14 @@
 -- Demand 3, by the parts that the kept records are cut into.
 -- Assumes nothing.
-use Prim.Native.Nat.{ℕ, _*_}
+use mathlib.Core.Path.{_≡_}
 use mathlib.Core.Bool.{cond}
 use mathlib.Core.List.{List}
-use mathlib.Core.Path.{_≡_}
+use Prim.Native.Nat.{ℕ, _*_}
 use lib.ListN.{length}
 use Rattle.tables.specs.Every.{Every}
+use Rattle.mag.specs.Samples.{samplesSize}
 use Rattle.carriage.specs.Carriage.{scienceSize, cells}
 use Rattle.cells.specs.Raw.{holdsCell}
-use Rattle.mag.specs.Samples.{samplesSize}
 use Rattle.listing.specs.Lines.{cellsHeld, slotsHeld, samplesHeld}
 use Rattle.state.specs.Keeping.{Sound}
 use Rattle.stream.specs.Lists.{Pairwise, flat, sum, total}

@@ -1,7 +1,7 @@
 -- Demand 3 as a law: for every start, length and pattern of loss, and whatever meets the promises of step and finish.
 -- Assumes nothing.
-use Prim.Native.Nat.{ℕ}
 use mathlib.Core.List.{List}
+use Prim.Native.Nat.{ℕ}
 use Rattle.state.specs.List.{fresh}
 use Rattle.state.specs.declared.State.{State}
 use Rattle.reader.specs.Steps.{Buffers}

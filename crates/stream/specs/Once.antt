@@ -1,11 +1,11 @@
 -- Demand 3, cell by cell: each kept record has exactly one accumulation and one major frame of its own, and stands there in its
 -- own place; what is handed out comes from such records, of one round, and is 0 elsewhere.
 -- Assumes nothing.
-use Prim.Native.Nat.{ℕ, _<_, _≤_}
+use mathlib.Core.Path.{_≡_}
 use mathlib.Core.Bool.{true, false}
 use mathlib.Core.List.{List}
 use mathlib.Core.Logic.{_⊎_}
-use mathlib.Core.Path.{_≡_}
+use Prim.Native.Nat.{ℕ, _<_, _≤_}
 use lib.ListN.{getD}
 use Rattle.tables.specs.Every.{Every}
 use Rattle.tables.specs.Marks.{bitSet}

@@ -2,9 +2,9 @@
 -- demand 2, the others demand 3 (proofs/Readers.antt: no reader that keeps the promises is one of the former, and none that meets
 -- demand 3 one of the latter).
 -- Assumes nothing.
-use Prim.Native.Nat.{ℕ, _<_, _≤_}
-use mathlib.Core.List.{List}
 use mathlib.Core.Path.{_≡_}
+use mathlib.Core.List.{List}
+use Prim.Native.Nat.{ℕ, _<_, _≤_}
 use Rattle.tables.specs.Every.{Every}
 use Rattle.listing.specs.Lines.{framesHeld}
 use Rattle.state.specs.Accumulation.{unreported}

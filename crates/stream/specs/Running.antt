@@ -1,8 +1,8 @@
 -- A reader over a list of records: a step for each, then finish once (demand 3).
 -- Assumes nothing.
-use Prim.Native.Nat.{ℕ}
 use mathlib.Core.Bool.{cond}
 use mathlib.Core.List.{List, [], _∷_, _++_}
+use Prim.Native.Nat.{ℕ}
 use lib.IntN.{ℤ}
 use Rattle.state.specs.Deciding.{decidedOf}
 use Rattle.state.specs.Ending.{endedOf}

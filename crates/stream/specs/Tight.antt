@@ -1,8 +1,8 @@
 -- Demand 3's 36 is the best bound.
 -- Assumes nothing.
-use Prim.Native.Nat.{ℕ, _<_}
-use mathlib.Core.List.{List}
 use mathlib.Core.Path.{_≡_}
+use mathlib.Core.List.{List}
+use Prim.Native.Nat.{ℕ, _<_}
 use Rattle.tables.specs.Every.{Every}
 use Rattle.state.specs.List.{fresh}
 use Rattle.reader.specs.Steps.{Buffers}

@@ -1,0 +1,126 @@
+-- Each kept real-time record has exactly one accumulation of its own, and what an accumulation holds is all of such records.
+-- Assumes nothing.
+use mathlib.Core.Path.{_≡_, refl, sym, ap, subst, subst⁻¹, _∙_}
+use mathlib.Core.Bool.{true, false, true≢false}
+use mathlib.Core.List.{List, [], _∷_}
+use mathlib.Core.Logic.{_⊎_, inl, inr, ⊎-elim}
+use Prim.Native.Nat.{ℕ, _<_, _≤_}
+use native.Mathlib.Omega.{arith}
+use lib.ListN.{getD}
+use Rattle.tables.specs.Marks.{bitSet}
+use Rattle.tables.specs.Every.{Every}
+use Rattle.record.specs.Layout.{frameCode, scienceBytes}
+use Rattle.carriage.specs.Carriage.{types, place, carrier, byteOf}
+use Rattle.carriage.proofs.EachCell.{once}
+use Rattle.cells.specs.Laying.{topPair, pairAt}
+use Rattle.stream.specs.Lists.{Some, Pairwise, ExactlyOne, Neighbours, flat, Linked, Cut}
+use Rattle.stream.specs.Running.{ClosedAccumulation}
+use Rattle.stream.specs.Sending.{Kept}
+use Rattle.stream.specs.Cutting.{at, typeOf, round, lostBetween, tears, Joined, Parted}
+use Rattle.stream.specs.Filling.{packet, Stands, Missing, Filled}
+use Rattle.stream.specs.Once.{Own, Unmixed}
+use Rattle.stream.proofs.Chains.{serial, Typed}
+use Rattle.stream.proofs.Grouping.{all-share}
+use Rattle.stream.proofs.Marking.{Rising}
+use Rattle.stream.proofs.Members.{found, In, Among, among-all, every-in, in-every, some-in, in-some, each, some-out, once-in, unique, beside}
+
+-- a part of a cutting, with what links it
+unfoldable pub Tied : (Kept → Kept → Type 0) → List Kept → Type 0
+Tied R [] = ⊥
+Tied R (x ∷ xs) = Linked R x xs
+
+pub all-tied : {O : Type 0} (R S : Kept → Kept → Type 0) (P : List Kept → O → Type 0) (gs : List (List Kept)) (os : List O) → Cut R S gs → Pairwise P gs os → Pairwise (λ g o. P g o × Tied R g) gs os
+unfolding Cut Pairwise Tied
+all-tied R S P [] [] c h = tt
+all-tied R S P [] (o ∷ os) c h = absurd h
+all-tied R S P (g ∷ gs) [] c h = absurd h
+all-tied R S P ([] ∷ gs) (o ∷ os) c h = absurd c
+all-tied R S P ((x ∷ xs) ∷ gs) (o ∷ os) c h = ((h .0, c .0), all-tied R S P gs os (c .2) (h .1))
+
+-- an accumulation is all of one round
+one-round : (fs : List Kept) (p f : Kept) → Linked Joined p fs → In f (p ∷ fs) → round f ≡ round p
+one-round fs p f l i = every-in (λ x. round x ≡ round p) (p ∷ fs) f (all-share (λ (x : Kept). round x) Joined (λ p f j. j .same) fs p l) i
+
+-- the accumulations of the kept real-time records rs
+module _ (rs : List Kept) (c k : ℕ) (counts : Rising at c rs) (serials : Rising serial k rs) (known : Every Typed rs) where
+  abbrev pub Part : List Kept → ClosedAccumulation → Type 0
+  Part g a = Filled g a × Tied Joined g
+
+  -- a record of the part has its accumulation
+  part-own : (f : Kept) (g : List Kept) (a : ClosedAccumulation) → Part g a → Among rs g → In f g → Own rs f a
+  unfolding Tied Some
+  part-own f [] a p w i = absurd i
+  part-own f (h ∷ t) a p w i = (
+    every-in (λ f. Stands f a) (h ∷ t) f (p .0 .own) i .held,
+    some-in (λ x. (at x ≡ a .report .first) × (round x ≡ round f)) rs h (w h (inl refl)) (sym (p .0 .first), sym (one-round t h f (p .1) i)),
+  )
+
+  -- one of its round and type is that record
+  same-record : (f x : Kept) → In f rs → In x rs → round x ≡ round f → typeOf x ≡ typeOf f → x ≡ f
+  unfolding serial
+  same-record f x i j r e =
+      let a = every-in Typed rs f known i .typed in
+      let b = every-in Typed rs x known j .typed in
+      unique serial rs k x f serials j i (omega arith)
+
+  -- and whose accumulation it is, is in the part
+  own-part : (f : Kept) → In f rs → (g : List Kept) (a : ClosedAccumulation) → Part g a → Among rs g → Own rs f a → In f g
+  unfolding Tied Some
+  own-part f i [] a p w o = absurd (p .1)
+  own-part f i (h ∷ t) a p w o =
+      in-some (λ x. (at x ≡ a .report .first) × (round x ≡ round f)) (In f (h ∷ t)) rs (o .1) (λ x j q.
+      let e : x ≡ h = unique at rs c x h counts j (w h (inl refl)) (q .0 ∙ p .0 .first) in
+      let r : round h ≡ round f = subst (λ (y : Kept). round y ≡ round f) e (q .1) in
+      ⊎-elim (λ (s : Some (λ y. typeOf y ≡ typeOf f) (h ∷ t)). from r s) (λ (n : Every (λ y. typeOf y ≡ typeOf f → ⊥) (h ∷ t)). absurd (none n)) (found typeOf (typeOf f) (h ∷ t)))
+    where
+      from : round h ≡ round f → Some (λ y. typeOf y ≡ typeOf f) (h ∷ t) → In f (h ∷ t)
+      from r s = in-some (λ y. typeOf y ≡ typeOf f) (In f (h ∷ t)) (h ∷ t) s (λ y j e.
+          subst (λ (z : Kept). In z (h ∷ t)) (same-record f y i (w y j) (one-round t h y (p .1) j ∙ r) e) j)
+
+      none : Every (λ y. typeOf y ≡ typeOf f → ⊥) (h ∷ t) → ⊥
+      none n = let b = every-in Typed rs f known i .typed in true≢false (sym (o .0) ∙ p .0 .others (typeOf f) (omega arith) n .unheld)
+
+  -- what is held comes from one round
+  unmixed-part : (g : List Kept) (a : ClosedAccumulation) → Part g a → Among rs g → Unmixed rs a
+  unfolding Tied Some
+  unmixed-part [] a p w = absurd (p .1)
+  unmixed-part (h ∷ t) a p w = record {
+    of = round h;
+    first = some-in (λ x. (at x ≡ a .report .first) × (round x ≡ round h)) rs h (w h (inl refl)) (sym (p .0 .first), refl);
+    cell = λ q l e.
+        let o = once q l in
+        source (carrier q) (o .is-type) e (λ f. getD (a .cells) q 0 ≡ getD (scienceBytes (packet f)) (byteOf q) 0) (λ f z s.
+        sym (ap (λ (n : ℕ). getD (a .cells) n 0) (ap (λ (u : ℕ). place u (byteOf q)) z ∙ o .is)) ∙ s .science (byteOf q) (o .is-byte));
+    no-cell = λ q l e. let o = once q l in sym (ap (λ (n : ℕ). getD (a .cells) n 0) (o .is)) ∙ absent (carrier q) (o .is-type) e .science (byteOf q) (o .is-byte);
+    pair = λ u l e. source u l e (λ f. pairAt (a .cells) u ≡ topPair (frameCode (packet f))) (λ f z s. ap (λ (n : ℕ). pairAt (a .cells) n) (sym z) ∙ s .pair);
+    no-pair = λ u l e. absent u l e .pair;
+  }
+    where
+      -- a type that is held is that of a record of the part
+      source : (u : ℕ) → u < types → bitSet (a .report .held) u ≡ true → (Q : Kept → Type 0) → ((f : Kept) → typeOf f ≡ u → Stands f a → Q f) → Some (λ f. (typeOf f ≡ u) × (round f ≡ round h) × Q f) rs
+      source u l e Q k =
+          ⊎-elim
+          (λ (s : Some (λ y. typeOf y ≡ u) (h ∷ t)). in-some (λ y. typeOf y ≡ u) (Some (λ f. (typeOf f ≡ u) × (round f ≡ round h) × Q f) rs) (h ∷ t) s (λ y j z.
+          some-in (λ f. (typeOf f ≡ u) × (round f ≡ round h) × Q f) rs y (w y j) (z, one-round t h y (p .1) j, k y z (every-in (λ f. Stands f a) (h ∷ t) y (p .0 .own) j))))
+          (λ (n : Every (λ y. typeOf y ≡ u → ⊥) (h ∷ t)). absurd (true≢false (sym e ∙ p .0 .others u l n .unheld)))
+          (found typeOf u (h ∷ t))
+
+      absent : (u : ℕ) → u < types → bitSet (a .report .held) u ≡ false → Missing u a
+      absent u l e = p .0 .others u l (in-every (λ y. typeOf y ≡ u → ⊥) (h ∷ t) (λ y j q. true≢false (sym (every-in (λ f. Stands f a) (h ∷ t) y (p .0 .own) j .held) ∙ ap (λ (n : ℕ). bitSet (a .report .held) n) q ∙ e)))
+
+  -- all accumulations handed out
+  module _ (gs : List (List Kept)) (os : List ClosedAccumulation) (whole : flat gs ≡ rs) (parts : Pairwise Part gs os) where
+    pub own-once : Every (λ f. ExactlyOne (Own rs f) os) rs
+    own-once = in-every _ rs (λ f i. once-in Part rs (Own rs f) f (part-own f) (own-part f i) serial gs os k parts (among-all rs (flat gs) whole) (subst⁻¹ (Rising serial k) whole serials) (subst⁻¹ (In f) whole i))
+
+    pub own-stands : Every (λ f. Every (λ a. Own rs f a → Stands f a) os) rs
+    own-stands = in-every _ rs (λ f i. each Part rs (λ a. Own rs f a → Stands f a) (λ g a p w o. every-in (λ f. Stands f a) g f (p .0 .own) (own-part f i g a p w o)) gs os parts (among-all rs (flat gs) whole))
+
+    pub all-unmixed : Every (Unmixed rs) os
+    all-unmixed = each Part rs (Unmixed rs) unmixed-part gs os parts (among-all rs (flat gs) whole)
+
+    pub torn-where : Cut Joined Parted gs → (p f : Kept) → Neighbours p f rs → round p ≡ round f → Some (λ a. Own rs p a × Own rs f a) os ⊎ (tears ≤ lostBetween p f)
+    torn-where cut p f n r =
+        ⊎-elim (λ (s : Some (λ g. In p g × In f g) gs). inl (some-out Part rs (λ a. Own rs p a × Own rs f a) (λ g. In p g × In f g) (λ g a q w i. (part-own p g a q w (i .0), part-own f g a q w (i .1))) gs os parts (among-all rs (flat gs) whole) s))
+        (λ (s : Parted p f). inr (s r))
+        (beside Joined Parted p f gs cut (subst⁻¹ (Neighbours p f) whole n))
