@@ -46,10 +46,13 @@ module _ (samples : List ℤ) (s k : ℕ) where
     pub slot : s < slots
     pub number : k < samplesSize
 
-  pub is-place : (b : Bool) → b ≡ isPlace samples s k → not b ≡ false → Place
+  pub place-so : (b : Bool) → b ≡ isPlace samples s k → not b ≡ false → isPlace samples s k ≡ true
+  place-so b e h = sym e ∙ not-false b h
+
+  pub is-place : isPlace samples s k ≡ true → Place
   unfolding isPlace
-  is-place b e h =
-      let x = two (eqb (length samples) frameSamples) (ltb s slots && ltb k samplesSize) (sym e ∙ not-false b h) in
+  is-place e =
+      let x = two (eqb (length samples) frameSamples) (ltb s slots && ltb k samplesSize) e in
       let y = two (ltb s slots) (ltb k samplesSize) (x .1) in
       record { size = eqb-true (length samples) frameSamples (x .0); slot = ltb-true s slots (y .0); number = ltb-true k samplesSize (y .1) }
 
