@@ -1,9 +1,8 @@
 -- The kept records by themselves: what the numbers of one say of the next.
 -- Assumes nothing.
-use mathlib.Core.Path.{_≡_, refl, subst, subst⁻¹, _∙_}
+use mathlib.Core.Path.{_≡_, refl, subst⁻¹, _∙_}
 use mathlib.Core.Bool.{Bool, true, false, cond}
 use mathlib.Core.List.{List, [], _∷_}
-use mathlib.Core.Logic.{inl, inr}
 use Prim.Native.Nat.{ℕ, _+_, _%_, _≤_, _<_}
 use native.Mathlib.Omega.{arith}
 use lib.ListN.{drop}
@@ -13,9 +12,8 @@ use Rattle.bits.specs.Twelve.{Bytes}
 use Rattle.record.specs.Layout.{frameCode}
 use Rattle.carriage.specs.Carriage.{types}
 use Rattle.stream.specs.Filling.{packet}
-use Rattle.stream.specs.Lists.{Neighbours}
-use Rattle.stream.specs.Sending.{realTime, next, Fate, kept, removed, extra, Sends, Kept, keptOf, reals, unspoiled}
-use Rattle.stream.specs.Cutting.{at, typeOf, lostBetween}
+use Rattle.stream.specs.Sending.{realTime, next, Fate, kept, removed, extra, Sends, Kept, keptOf, reals}
+use Rattle.stream.specs.Cutting.{at, typeOf}
 use Rattle.stream.proofs.Marking.{Rising, rising-down}
 
 -- x is the next kept: count c, real-time number k and l lost ones come before what was sent from here on
@@ -56,20 +54,6 @@ chain (kept r ∷ xs) c k l h =
       record { bytes = p .bytes; counted = omega arith; losing = omega arith; rising = omega arith; between = omega arith; typed = p .typed },
       subst⁻¹ (λ (d : ℕ). Chain (d + 1) (next k r) l (keptOf (next k r) l xs)) (p .counted) (chain xs (c + 1) (next k r) l (h .1)),
     )
-
--- neighbouring kept records stand one count apart, and one more for each lost between them
-next-apart : (p f : Kept) (xs : List Kept) (c k l : ℕ) → Chain c k l xs → Neighbours p f xs → (at f ≡ at p + 1 + lostBetween p f) × (p .lost ≤ f .lost)
-unfolding Chain Neighbours
-next-apart p f [] c k l h n = absurd n
-next-apart p f (x ∷ []) c k l h n = absurd n
-next-apart p f (x ∷ y ∷ ys) c k l h (inl e) = subst (λ (z : Kept). (at f ≡ at z + 1 + lostBetween z f) × (z .lost ≤ f .lost)) (e .0) (subst (λ (z : Kept). (at z ≡ at x + 1 + lostBetween x z) × (x .lost ≤ z .lost)) (e .1) (apart (h .1 .0)))
-  where
-    apart : Next (at x + 1) (next (x .serial) (x .bytes)) (x .lost) y → (at y ≡ at x + 1 + lostBetween x y) × (x .lost ≤ y .lost)
-    apart n = (omega (arith, n .counted, n .losing), n .losing)
-next-apart p f (x ∷ y ∷ ys) c k l h (inr n) = next-apart p f (y ∷ ys) (at x + 1) (next (x .serial) (x .bytes)) (x .lost) (h .1) n
-
-pub between : (xs : List Fate) (c k : ℕ) → Sends c k xs → (p f : Kept) → Neighbours p f (unspoiled k xs) → (at f ≡ at p + 1 + lostBetween p f) × (p .lost ≤ f .lost)
-between xs c k h p f n = next-apart p f (unspoiled k xs) c k 0 (chain xs c k 0 h) n
 
 -- a kept real-time record: its number gives its type, and its Frame Code is a byte
 pub record Typed (f : Kept) : Type 0 where

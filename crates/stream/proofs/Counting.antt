@@ -16,17 +16,17 @@ use Rattle.carriage.proofs.EachCell.{place-cell, carrier-place, byte-place, onc
 use Rattle.cells.specs.Raw.{holdsCell}
 use Rattle.stream.specs.Lists.{total}
 
-total-same : (f g : ℕ → ℕ) (n : ℕ) → ((i : ℕ) → i < n → f i ≡ g i) → total f n ≡ total g n
+pub total-same : (f g : ℕ → ℕ) (n : ℕ) → ((i : ℕ) → i < n → f i ≡ g i) → total f n ≡ total g n
 unfolding total
 total-same f g zero h = refl
 total-same f g (suc n) h = rw (total-same f g n (λ i l. h i (omega arith)), h n (omega arith))
 
-total-none : (f : ℕ → ℕ) (n : ℕ) → ((i : ℕ) → i < n → f i ≡ 0) → total f n ≡ 0
+pub total-none : (f : ℕ → ℕ) (n : ℕ) → ((i : ℕ) → i < n → f i ≡ 0) → total f n ≡ 0
 unfolding total
 total-none f zero h = refl
 total-none f (suc n) h = omega (arith, total-none f n (λ i l. h i (omega arith)), h n (omega arith))
 
-total-add : (f g : ℕ → ℕ) (n : ℕ) → total f n + total g n ≡ total (λ i. f i + g i) n
+pub total-add : (f g : ℕ → ℕ) (n : ℕ) → total f n + total g n ≡ total (λ i. f i + g i) n
 unfolding total
 total-add f g zero = refl
 total-add f g (suc n) = omega (arith, total-add f g n)
@@ -38,7 +38,7 @@ swap f zero m = sym (total-none (λ p. 0) m (λ i l. refl))
 swap f (suc n) m = ap (λ (x : ℕ). x + total (f n) m) (swap f n m) ∙ total-add (λ p. total (λ q. f q p) n) (f n) m
 
 -- one term alone
-only : (k x n : ℕ) → k < n → total (λ i. cond (eqb i k) x 0) n ≡ x
+pub only : (k x n : ℕ) → k < n → total (λ i. cond (eqb i k) x 0) n ≡ x
 unfolding total
 only k x zero h = absurd (omega arith)
 only k x (suc n) h = go (eqb n k) refl (only k x n)
@@ -94,7 +94,7 @@ module _ (g : ℕ → ℕ) where
           go false e = refl
 
 -- 83 bytes a type
-total-more : (f : ℕ → ℕ) (n j : ℕ) → total f (n + j) ≡ total f n + total (λ i. f (n + i)) j
+pub total-more : (f : ℕ → ℕ) (n j : ℕ) → total f (n + j) ≡ total f n + total (λ i. f (n + i)) j
 unfolding total
 total-more f n zero = rw (add-zero n) (omega arith)
 total-more f n (suc j) = rw (add-suc n j) (omega (arith, total-more f n j))
@@ -106,7 +106,7 @@ eighty-three x = omega arith
 one-type : (h : ℕ → ℕ) (m : ℕ) → total (λ i. h ((m * 83 + i) / 83)) 83 ≡ 83 * h m
 one-type h m = total-same (λ i. h ((m * 83 + i) / 83)) (λ i. h m) 83 (λ i l. let d : (m * 83 + i) / 83 ≡ m = omega arith in ap h d) ∙ eighty-three (h m)
 
-total-suc : (f : ℕ → ℕ) (n : ℕ) → total f (suc n) ≡ total f n + f n
+pub total-suc : (f : ℕ → ℕ) (n : ℕ) → total f (suc n) ≡ total f n + f n
 unfolding total
 total-suc f n = refl
 

@@ -12,6 +12,7 @@ pub mod Cells
 pub mod Frames
 pub mod Slots
 pub mod Counting
+pub mod Lost
 pub mod Sums
 pub mod Demand
 pub mod OwnCells

@@ -81,7 +81,7 @@ in-real (x ∷ xs) f (inr i) r = go (realTime (x .bytes)) (in-real xs f i r)
 
 module _ (key : Kept → ℕ) where
   -- keys from low on
-  above : (xs : List Kept) (low : ℕ) (f : Kept) → Rising key low xs → In f xs → low ≤ key f
+  pub above : (xs : List Kept) (low : ℕ) (f : Kept) → Rising key low xs → In f xs → low ≤ key f
   unfolding Rising Some
   above [] low f r i = absurd i
   above (x ∷ xs) low f r (inl e) = subst (λ (y : Kept). low ≤ key y) e (r .0)

@@ -1,14 +1,18 @@
 -- Demand 3, cell by cell.
 -- Assumes nothing.
+use mathlib.Core.Path.{subst⁻¹}
 use mathlib.Core.List.{List}
-use Prim.Native.Nat.{ℕ}
+use mathlib.Core.Logic.{_⊎_}
+use Prim.Native.Nat.{ℕ, _≤_}
 use Rattle.state.specs.List.{fresh}
 use Rattle.reader.specs.Steps.{Buffers}
+use Rattle.stream.specs.Lists.{Some}
 use Rattle.stream.specs.Running.{Trace, Allowed, accumulations, majors}
 use Rattle.stream.specs.Sending.{Fate, fed, Stream, reals, unspoiled}
-use Rattle.stream.specs.Cutting.{at, Joined, Parted}
+use Rattle.stream.specs.Cutting.{at, Joined, Parted, tears}
 use Rattle.stream.specs.Filling.{Filled}
-use Rattle.stream.specs.Once.{OnceEach}
+use Rattle.stream.specs.Once.{OnceEach, Own}
+use Rattle.stream.proofs.Lost.{real-lost}
 use Rattle.stream.proofs.Chains.{rising-counts, rising-serials, chain, all-typed}
 use Rattle.stream.proofs.Reals.{rising-reals}
 use Rattle.stream.proofs.Demand.{demand-3}
@@ -30,7 +34,9 @@ once-each xs b c k t w a =
       one = own-once rs c k real-counts serials known (d .parts) (accumulations t) (d .parts-whole) parts;
       there = own-stands rs c k real-counts serials known (d .parts) (accumulations t) (d .parts-whole) parts;
       unmixed = all-unmixed rs c k real-counts serials known (d .parts) (accumulations t) (d .parts-whole) parts;
-      torn = torn-where rs c k real-counts serials known (d .parts) (accumulations t) (d .parts-whole) parts (d .parts-cut);
+      torn = λ p f n r.
+          subst⁻¹ (λ (m : ℕ). Some (λ a. Own rs p a × Own rs f a) (accumulations t) ⊎ (tears ≤ m)) (real-lost ks c k 0 chained p f n)
+          (torn-where rs c k real-counts serials known (d .parts) (accumulations t) (d .parts-whole) parts (d .parts-cut) p f n r);
       one-major = major-once ks c counts (d .major-parts) (majors t) (d .major-whole) (d .major-out);
       there-major = major-slotted ks c counts (d .major-parts) (majors t) (d .major-whole) (d .major-out);
       unmixed-major = majors-unmixed ks c counts (d .major-parts) (majors t) (d .major-whole) (d .major-out);

@@ -12,11 +12,13 @@ use Rattle.carriage.specs.Carriage.{types}
 use Rattle.state.specs.List.{fresh}
 use Rattle.stream.specs.Lists.{Some, Pairwise, Neighbours}
 use Rattle.stream.specs.Running.{Trace, run, traceOf, ClosedAccumulation, accumulations}
-use Rattle.stream.specs.Sending.{next, Fate, kept, removed, Sends, fed, ExtraRefused, Stream, Kept, keptOf, reals, realUnspoiled}
-use Rattle.stream.specs.Cutting.{typeOf, lostBetween, tears, Joined, Parted}
+use Rattle.stream.specs.Sending.{next, Fate, kept, removed, Sends, fed, ExtraRefused, Stream, Kept, keptOf, reals, realUnspoiled, unspoiled}
+use Rattle.stream.specs.Cutting.{typeOf, tears, Joined, Parted, at, unaccepted}
 use Rattle.stream.specs.Filling.{Filled}
 use Rattle.stream.specs.Once.{Own}
 use Rattle.stream.specs.Tight.{TornBy, Tight}
+use Rattle.stream.proofs.Chains.{chain}
+use Rattle.stream.proofs.Lost.{real-lost}
 use Rattle.stream.proofs.Runs.{run-allowed}
 use Rattle.stream.proofs.Demand.{demand-3}
 use Rattle.stream.proofs.Once.{once-each}
@@ -36,7 +38,7 @@ none-below n h t =
     let tr = run fresh (t .lent) (fed (t .fates)) in
     let o = once-each (t .fates) (t .lent) (t .count) (t .serial) tr (t .stream) (run-allowed (fed (t .fates)) fresh (t .lent)) in
     ⊎-elim (λ (s : Some (λ a. Own rs (t .before) a × Own rs (t .after) a) (accumulations tr)). neither (Own rs (t .before)) (Own rs (t .after)) (accumulations tr) (t .apart) s)
-    (λ (s : tears ≤ lostBetween (t .before) (t .after)). omega (arith, t .lost))
+    (λ (s : tears ≤ unaccepted (unspoiled (t .serial) (t .fates)) (at (t .before)) (at (t .after))). omega (arith, t .lost))
     (o .torn (t .before) (t .after) (t .neighbours) (t .one-round))
 
 -- n other records from count c on, none of them kept
@@ -126,6 +128,10 @@ stands-apart =
     (λ (s : Whole Joined Parted before after (d .parts)). absurd (far (s .related)))
     (of-two Joined Parted before after (d .parts) (d .parts-whole ∙ are-kept) (d .parts-cut))
 
+lost-36 : unaccepted (unspoiled 5 stream) (at before) (at after) ≡ 36
+unfolding before after Neighbours
+lost-36 = real-lost (unspoiled 5 stream) 100 5 0 (chain stream 100 5 0 sent) before after (subst⁻¹ (Neighbours before after) are-kept (inl (refl, refl)))
+
 pub tight : Tight
 unfolding Neighbours
 tight = record {
@@ -139,7 +145,7 @@ tight = record {
     after = after;
     neighbours = subst⁻¹ (Neighbours before after) are-kept (inl (refl, refl));
     one-round = unfold before after in refl;
-    lost = unfold before after in refl;
+    lost = lost-36;
     apart = stands-apart;
   };
   none-below = none-below;

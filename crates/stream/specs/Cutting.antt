@@ -1,13 +1,15 @@
 -- Which records stand together in what is handed out (demand 3).
 -- Assumes nothing.
 use mathlib.Core.Path.{_≡_}
-use mathlib.Core.List.{List}
-use Prim.Native.Nat.{ℕ, _-_, _/_, _<_, _≤_}
+use mathlib.Core.Bool.{Bool, false, cond, _||_}
+use mathlib.Core.List.{List, [], _∷_}
+use Prim.Native.Nat.{ℕ, _+_, _-_, _/_, _<_, _≤_}
+use lib.Dec.{eqb}
 use Rattle.record.specs.Contents.{recordOf}
 use Rattle.carriage.specs.Carriage.{types}
 use Rattle.state.specs.Accumulation.{most}
 use Rattle.state.specs.Major.{majorNumber}
-use Rattle.stream.specs.Lists.{Cut}
+use Rattle.stream.specs.Lists.{Cut, total}
 use Rattle.stream.specs.Sending.{Kept}
 
 abbrev pub at : Kept → ℕ
@@ -20,11 +22,19 @@ typeOf f = recordOf (f .bytes) .«frame_type»
 abbrev pub round : Kept → ℕ
 round f = f .serial / types
 
--- how many counts between that of p and that of f, kept later, weren't accepted: each count was sent once, those kept were
--- accepted, and the lost ones only grow. Neighbours are so many counts apart, and one (`between` in proofs/Chains.antt); for
--- neighbouring real-time records it is 01's g (`gap-is` in proofs/Rounds.antt)
+-- how many of those sent between p and f, kept later, were lost: lost ones only grow
 abbrev pub lostBetween : Kept → Kept → ℕ
 lostBetween p f = f .lost - p .lost
+
+-- one of the kept records ks has the count n
+unfoldable pub hasCount : List Kept → ℕ → Bool
+hasCount [] n = false
+hasCount (x ∷ ks) n = eqb n (at x) || hasCount ks n
+
+-- "the counts strictly between c and d that were not accepted" (01, "Joining accumulations"): every kept record is accepted, and
+-- nothing else is. Between neighbouring real-time records they are the lost ones (`real-lost` in proofs/Lost.antt)
+abbrev pub unaccepted : List Kept → ℕ → ℕ → ℕ
+unaccepted ks c d = total (λ i. cond (hasCount ks (c + 1 + i)) 0 1) (d - (c + 1))
 
 -- neighbouring real-time records in one accumulation that is handed out: of one round, types rising, no more lost between them
 -- than the joining rule allows

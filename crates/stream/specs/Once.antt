@@ -17,7 +17,7 @@ use Rattle.state.specs.Major.{slots}
 use Rattle.stream.specs.Lists.{Some, ExactlyOne, Neighbours}
 use Rattle.stream.specs.Running.{Trace, ClosedAccumulation, ClosedMajor, accumulations, majors}
 use Rattle.stream.specs.Sending.{Fate, Kept, reals, unspoiled, realUnspoiled}
-use Rattle.stream.specs.Cutting.{at, typeOf, round, lostBetween, tears, major}
+use Rattle.stream.specs.Cutting.{at, typeOf, round, unaccepted, tears, major}
 use Rattle.stream.specs.Filling.{packet, Stands, slot, Sampled, Slotted, NoSlot, NoMag}
 
 -- the accumulation is of round n: its first count is that of one of the kept real-time records fs, of that round
@@ -61,7 +61,7 @@ pub record OnceEach (k : ℕ) (xs : List Fate) (t : Trace) : Type 0 where
   -- "a sent one is torn in two only where 36 or more counts weren't accepted between two neighbouring accepted real-time frames":
   -- some accumulation is both's, or so many weren't
   pub torn : (p f : Kept) → Neighbours p f (realUnspoiled k xs) → round p ≡ round f
-      → Some (λ a. Own (realUnspoiled k xs) p a × Own (realUnspoiled k xs) f a) (accumulations t) ⊎ (tears ≤ lostBetween p f)
+      → Some (λ a. Own (realUnspoiled k xs) p a × Own (realUnspoiled k xs) f a) (accumulations t) ⊎ (tears ≤ unaccepted (unspoiled k xs) (at p) (at f))
   -- and every kept record in its major frame and slot
   pub one-major : Every (λ f. ExactlyOne (OwnMajor f) (majors t)) (unspoiled k xs)
   pub there-major : Every (λ f. Every (λ m. OwnMajor f m → Slotted f m) (majors t)) (unspoiled k xs)

@@ -8,8 +8,8 @@ use Rattle.state.specs.List.{fresh}
 use Rattle.reader.specs.Steps.{Buffers}
 use Rattle.stream.specs.Lists.{Neighbours}
 use Rattle.stream.specs.Running.{run, accumulations}
-use Rattle.stream.specs.Sending.{Fate, fed, Stream, Kept, realUnspoiled}
-use Rattle.stream.specs.Cutting.{round, lostBetween, tears}
+use Rattle.stream.specs.Sending.{Fate, fed, Stream, Kept, unspoiled, realUnspoiled}
+use Rattle.stream.specs.Cutting.{at, round, unaccepted, tears}
 use Rattle.stream.specs.Once.{Own}
 
 -- "An accumulation that was sent is torn when its frames are handed out in more than one": a sent stream in which two
@@ -24,7 +24,7 @@ pub record TornBy (n : ℕ) : Type 0 where
   pub after : Kept
   pub neighbours : Neighbours before after (realUnspoiled serial fates)
   pub one-round : round before ≡ round after
-  pub lost : lostBetween before after ≡ n
+  pub lost : unaccepted (unspoiled serial fates) (at before) (at after) ≡ n
   pub apart : Every (λ a. Own (realUnspoiled serial fates) before a → Own (realUnspoiled serial fates) after a → ⊥) (accumulations (run fresh lent (fed fates)))
 
 -- proved as `tight` in proofs/Tight.antt

@@ -1,0 +1,108 @@
+-- The counts that weren't accepted between two kept records are those that were lost.
+-- Assumes nothing.
+use mathlib.Core.Path.{_≡_, refl, sym, ap, subst, _∙_}
+use mathlib.Core.Bool.{Bool, true, false, cond, _||_}
+use mathlib.Core.List.{List, [], _∷_}
+use mathlib.Core.Logic.{inl, inr}
+use Prim.Native.Nat.{ℕ, zero, suc, _+_, _-_, _<_, _≤_}
+use native.Mathlib.Numerals.{add-one}
+use native.Mathlib.Omega.{arith}
+use lib.Dec.{eqb}
+use borrow.Author.Tests.{eq-eqb, ne-eqb, eqb-true}
+use Rattle.stream.specs.Lists.{Some, Neighbours, total}
+use Rattle.stream.specs.Sending.{next, Kept, reals}
+use Rattle.stream.specs.Cutting.{at, hasCount, unaccepted, lostBetween}
+use Rattle.stream.proofs.Marking.{Rising}
+use Rattle.stream.proofs.Reals.{rising-reals}
+use Rattle.stream.proofs.Chains.{Chain, rising-counts}
+use Rattle.stream.proofs.Members.{In, above, real-in}
+use Rattle.stream.proofs.Counting.{total-same, total-none, total-add, total-more, total-suc, only}
+
+-- how many kept records have a count below n
+abbrev keptBelow : List Kept → ℕ → ℕ
+keptBelow ks n = total (λ i. cond (hasCount ks i) 1 0) n
+
+-- none has one below them all
+none-there : (ks : List Kept) (low n : ℕ) → Rising at low ks → n < low → hasCount ks n ≡ false
+unfolding hasCount Rising
+none-there [] low n r h = refl
+none-there (x ∷ ks) low n r h = rw (ne-eqb n (at x) (λ e. omega (arith, r .0)), none-there ks (at x + 1) n (r .1) (omega (arith, r .0)))
+
+none-below : (ks : List Kept) (low n : ℕ) → Rising at low ks → n ≤ low → keptBelow ks n ≡ 0
+none-below ks low n r h = total-none (λ i. cond (hasCount ks i) 1 0) n (λ i l. rw (none-there ks low i r (omega arith)))
+
+-- the first of them adds one
+first-adds : (x : Kept) (ks : List Kept) (n : ℕ) → Rising at (at x + 1) ks → at x < n → keptBelow (x ∷ ks) n ≡ 1 + keptBelow ks n
+unfolding hasCount
+first-adds x ks n r h =
+    total-same (λ i. cond (hasCount (x ∷ ks) i) 1 0) (λ i. cond (eqb i (at x)) 1 0 + cond (hasCount ks i) 1 0) n (λ i l. each i)
+    ∙ sym (total-add (λ i. cond (eqb i (at x)) 1 0) (λ i. cond (hasCount ks i) 1 0) n)
+    ∙ ap (λ (y : ℕ). y + keptBelow ks n) (only (at x) 1 n h)
+  where
+    each : (i : ℕ) → cond (hasCount (x ∷ ks) i) 1 0 ≡ cond (eqb i (at x)) 1 0 + cond (hasCount ks i) 1 0
+    each i = go (eqb i (at x)) refl
+      where
+        go : (t : Bool) → eqb i (at x) ≡ t → cond (t || hasCount ks i) 1 0 ≡ cond t 1 0 + cond (hasCount ks i) 1 0
+        go true e = let m : i ≡ at x = eqb-true i (at x) e in rw (none-there ks (at x + 1) i r (omega arith))
+        go false e = omega arith
+
+there : (ks : List Kept) (p : Kept) → In p ks → hasCount ks (at p) ≡ true
+unfolding hasCount Some
+there [] p i = absurd i
+there (x ∷ ks) p (inl e) = rw (eq-eqb (at p) (at x) (ap (λ (y : Kept). at y) (sym e)))
+there (x ∷ ks) p (inr i) = rw (there ks p i) (or-true (eqb (at p) (at x)))
+  where
+    or-true : (b : Bool) → (b || true) ≡ true
+    or-true true = refl
+    or-true false = refl
+
+-- a kept record's count: as many as were kept and lost before it
+count-is : (ks : List Kept) (c k l : ℕ) → Chain c k l ks → (x : Kept) → In x ks → at x + l ≡ c + keptBelow ks (at x) + x .lost
+unfolding Chain Some Rising
+count-is [] c k l h x i = absurd i
+count-is (y ∷ ks) c k l h x (inl e) = subst (λ (z : Kept). at z + l ≡ c + keptBelow (y ∷ ks) (at z) + z .lost) e (omega (arith, h .0 .counted, none-below (y ∷ ks) (at y) (at y) rises (omega arith)))
+  where
+    rises : Rising at (at y) (y ∷ ks)
+    rises = (omega arith, rising-counts ks (at y + 1) (next (y .serial) (y .bytes)) (y .lost) (h .1))
+count-is (y ∷ ks) c k l h x (inr i) =
+    let r = rising-counts ks (at y + 1) (next (y .serial) (y .bytes)) (y .lost) (h .1) in
+    omega (arith, h .0 .counted, count-is ks (at y + 1) (next (y .serial) (y .bytes)) (y .lost) (h .1) x i, first-adds y ks (at x) r (omega (arith, above at ks (at y + 1) x r i)))
+
+all-ones : (b : ℕ → Bool) (n : ℕ) → total (λ i. cond (b i) 0 1) n + total (λ i. cond (b i) 1 0) n ≡ n
+unfolding total
+all-ones b zero = refl
+all-ones b (suc n) = omega (arith, all-ones b n, one (b n))
+  where
+    one : (t : Bool) → cond t 0 1 + cond t 1 0 ≡ 1
+    one true = refl
+    one false = refl
+
+module _ (ks : List Kept) (c k l : ℕ) (h : Chain c k l ks) (p f : Kept) (i : In p ks) (j : In f ks) (up : at p < at f) where
+  unaccepted-lost : unaccepted ks (at p) (at f) ≡ lostBetween p f
+  unaccepted-lost =
+      let m = at f - (at p + 1) in
+      let e : at p + 1 + m ≡ at f = omega arith in
+      let a : keptBelow ks (at f) ≡ keptBelow ks (at p + 1) + total (λ n. cond (hasCount ks (at p + 1 + n)) 1 0) m = ap (keptBelow ks) (sym e) ∙ total-more (λ n. cond (hasCount ks n) 1 0) (at p + 1) m in
+      let b : keptBelow ks (at p + 1) ≡ keptBelow ks (at p) + 1 = ap (keptBelow ks) (add-one (at p)) ∙ total-suc (λ n. cond (hasCount ks n) 1 0) (at p) ∙ ap (λ (t : Bool). keptBelow ks (at p) + cond t 1 0) (there ks p i) in
+      omega (arith, a, b, count-is ks c k l h p i, count-is ks c k l h f j, all-ones (λ n. hasCount ks (at p + 1 + n)) m)
+
+-- neighbours
+neighbours-in : (xs : List Kept) (p f : Kept) → Neighbours p f xs → In p xs × In f xs
+unfolding Neighbours Some
+neighbours-in [] p f n = absurd n
+neighbours-in (x ∷ []) p f n = absurd n
+neighbours-in (x ∷ y ∷ ys) p f (inl e) = (inl (e .0), inr (inl (e .1)))
+neighbours-in (x ∷ y ∷ ys) p f (inr n) = let r = neighbours-in (y ∷ ys) p f n in (inr (r .0), inr (r .1))
+
+neighbours-rise : (key : Kept → ℕ) (xs : List Kept) (low : ℕ) (p f : Kept) → Rising key low xs → Neighbours p f xs → key p < key f
+unfolding Neighbours Rising
+neighbours-rise key [] low p f r n = absurd n
+neighbours-rise key (x ∷ []) low p f r n = absurd n
+neighbours-rise key (x ∷ y ∷ ys) low p f r (inl e) = subst (λ (z : Kept). key z < key f) (e .0) (subst (λ (z : Kept). key x < key z) (e .1) (omega (arith, r .1 .0)))
+neighbours-rise key (x ∷ y ∷ ys) low p f r (inr n) = neighbours-rise key (y ∷ ys) (key x + 1) p f (r .1) n
+
+-- neighbouring real-time records
+pub real-lost : (ks : List Kept) (c k l : ℕ) → Chain c k l ks → (p f : Kept) → Neighbours p f (reals ks) → unaccepted ks (at p) (at f) ≡ lostBetween p f
+real-lost ks c k l h p f n =
+    let i = neighbours-in (reals ks) p f n in
+    unaccepted-lost ks c k l h p f (real-in ks p (i .0) .0) (real-in ks f (i .1) .0) (neighbours-rise at (reals ks) c p f (rising-reals at ks c (rising-counts ks c k l h)) n)
