@@ -25,7 +25,7 @@ use Rattle.stream.proofs.Rounds.{outOf, rounds}
 use Rattle.stream.proofs.Cells.{filled}
 use Rattle.stream.proofs.Frames.{majorOf, frames}
 use Rattle.stream.proofs.Slots.{major-filled}
-use Rattle.stream.proofs.Sums.{filled-total, cells-total, samples-total, slots-total}
+use Rattle.stream.proofs.Sums.{cells-total, samples-total, slots-total}
 
 module _ (xs : List Fate) (b : Buffers) (c k : ℕ) where
   ran : Stream c k xs b (run fresh b (fed xs)) → Demand3 k xs (run fresh b (fed xs))
@@ -49,7 +49,6 @@ module _ (xs : List Fate) (b : Buffers) (c k : ℕ) where
         major-whole = m .whole;
         major-cut = m .cut;
         major-out = major-out;
-        cells-filled = filled-total (r .groups) _ parts-out ∙ ap (λ (g : List Kept). scienceSize * length g) (r .whole);
         cells-sum = cells-total (r .groups) _ parts-out ∙ ap (λ (g : List Kept). scienceSize * length g) (r .whole);
         samples-sum = samples-total (m .groups) _ major-out ∙ ap (λ (g : List Kept). samplesSize * length (reals g)) (m .whole);
         slots-sum = slots-total (m .groups) _ major-out ∙ ap length (m .whole);

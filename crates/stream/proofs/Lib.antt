@@ -15,6 +15,7 @@ pub mod Counting
 pub mod Lost
 pub mod Sums
 pub mod Demand
+pub mod Filled
 pub mod OwnCells
 pub mod OwnSlots
 pub mod Once

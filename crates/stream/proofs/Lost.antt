@@ -15,7 +15,7 @@ use Rattle.stream.specs.Cutting.{at, hasCount, unaccepted, lostBetween}
 use Rattle.stream.proofs.Marking.{Rising}
 use Rattle.stream.proofs.Reals.{rising-reals}
 use Rattle.stream.proofs.Chains.{Chain, rising-counts}
-use Rattle.stream.proofs.Members.{In, above, real-in}
+use Rattle.stream.proofs.Members.{In, above, real-in, neighbours-in, neighbours-rise}
 use Rattle.stream.proofs.Counting.{total-same, total-none, total-add, total-more, total-suc, only}
 
 -- how many kept records have a count below n
@@ -85,21 +85,6 @@ module _ (ks : List Kept) (c k l : ℕ) (h : Chain c k l ks) (p f : Kept) (i : I
       let a : keptBelow ks (at f) ≡ keptBelow ks (at p + 1) + total (λ n. cond (hasCount ks (at p + 1 + n)) 1 0) m = ap (keptBelow ks) (sym e) ∙ total-more (λ n. cond (hasCount ks n) 1 0) (at p + 1) m in
       let b : keptBelow ks (at p + 1) ≡ keptBelow ks (at p) + 1 = ap (keptBelow ks) (add-one (at p)) ∙ total-suc (λ n. cond (hasCount ks n) 1 0) (at p) ∙ ap (λ (t : Bool). keptBelow ks (at p) + cond t 1 0) (there ks p i) in
       omega (arith, a, b, count-is ks c k l h p i, count-is ks c k l h f j, all-ones (λ n. hasCount ks (at p + 1 + n)) m)
-
--- neighbours
-neighbours-in : (xs : List Kept) (p f : Kept) → Neighbours p f xs → In p xs × In f xs
-unfolding Neighbours Some
-neighbours-in [] p f n = absurd n
-neighbours-in (x ∷ []) p f n = absurd n
-neighbours-in (x ∷ y ∷ ys) p f (inl e) = (inl (e .0), inr (inl (e .1)))
-neighbours-in (x ∷ y ∷ ys) p f (inr n) = let r = neighbours-in (y ∷ ys) p f n in (inr (r .0), inr (r .1))
-
-neighbours-rise : (key : Kept → ℕ) (xs : List Kept) (low : ℕ) (p f : Kept) → Rising key low xs → Neighbours p f xs → key p < key f
-unfolding Neighbours Rising
-neighbours-rise key [] low p f r n = absurd n
-neighbours-rise key (x ∷ []) low p f r n = absurd n
-neighbours-rise key (x ∷ y ∷ ys) low p f r (inl e) = subst (λ (z : Kept). key z < key f) (e .0) (subst (λ (z : Kept). key x < key z) (e .1) (omega (arith, r .1 .0)))
-neighbours-rise key (x ∷ y ∷ ys) low p f r (inr n) = neighbours-rise key (y ∷ ys) (key x + 1) p f (r .1) n
 
 -- neighbouring real-time records
 pub real-lost : (ks : List Kept) (c k l : ℕ) → Chain c k l ks → (p f : Kept) → Neighbours p f (reals ks) → unaccepted ks (at p) (at f) ≡ lostBetween p f

@@ -24,7 +24,7 @@ use Rattle.stream.specs.Sending.{realTime, SentAt}
 use Rattle.stream.proofs.Calls.{noCells, noSamples}
 use Rattle.stream.proofs.Parts.{Lengths, is-sized}
 
--- a record at count c, below 256, with Frame Code t and ones in the rest of the packet; day 1, flags 01
+-- a record at count c, below 256, with Frame Code t and ones in the rest of the packet and in the tail; day 1, flags 01
 unfoldable pub made : ℕ → ℕ → List ℕ
 made c t =
     (0x1A ∷ 0xCF ∷ 0xFC ∷ 0x1D ∷ 0x66 ∷ 0xC5 ∷ 0 ∷ 0 ∷ c ∷ 0 ∷ [])

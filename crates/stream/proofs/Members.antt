@@ -4,7 +4,7 @@ use mathlib.Core.Path.{_≡_, refl, sym, ap, subst, subst⁻¹, _∙_}
 use mathlib.Core.Bool.{Bool, true, false, cond}
 use mathlib.Core.List.{List, [], _∷_, _++_}
 use mathlib.Core.Logic.{_⊎_, inl, inr, ⊎-elim}
-use Prim.Native.Nat.{ℕ, _+_, _≤_}
+use Prim.Native.Nat.{ℕ, _+_, _<_, _≤_}
 use native.Mathlib.Decide.{ℕ-discrete}
 use native.Mathlib.Omega.{arith}
 use Rattle.tables.specs.Every.{Every}
@@ -196,3 +196,18 @@ found key u (x ∷ g) = go (ℕ-discrete (key x) u) (found key u g)
     go (yes e) r = inl (inl e)
     go (no e) (inl s) = inl (inr s)
     go (no e) (inr n) = inr (e, n)
+
+-- neighbours
+pub neighbours-in : (xs : List Kept) (p f : Kept) → Neighbours p f xs → In p xs × In f xs
+unfolding Neighbours Some
+neighbours-in [] p f n = absurd n
+neighbours-in (x ∷ []) p f n = absurd n
+neighbours-in (x ∷ y ∷ ys) p f (inl e) = (inl (e .0), inr (inl (e .1)))
+neighbours-in (x ∷ y ∷ ys) p f (inr n) = let r = neighbours-in (y ∷ ys) p f n in (inr (r .0), inr (r .1))
+
+pub neighbours-rise : (key : Kept → ℕ) (xs : List Kept) (low : ℕ) (p f : Kept) → Rising key low xs → Neighbours p f xs → key p < key f
+unfolding Neighbours Rising
+neighbours-rise key [] low p f r n = absurd n
+neighbours-rise key (x ∷ []) low p f r n = absurd n
+neighbours-rise key (x ∷ y ∷ ys) low p f r (inl e) = subst (λ (z : Kept). key z < key f) (e .0) (subst (λ (z : Kept). key x < key z) (e .1) (omega (arith, r .1 .0)))
+neighbours-rise key (x ∷ y ∷ ys) low p f r (inr n) = neighbours-rise key (y ∷ ys) (key x + 1) p f (r .1) n

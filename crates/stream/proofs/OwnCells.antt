@@ -22,7 +22,7 @@ use Rattle.stream.specs.Once.{Own, Unmixed}
 use Rattle.stream.proofs.Chains.{serial, Typed}
 use Rattle.stream.proofs.Grouping.{all-share}
 use Rattle.stream.proofs.Marking.{Rising}
-use Rattle.stream.proofs.Members.{found, In, Among, among-all, every-in, in-every, some-in, in-some, each, some-out, once-in, unique, beside}
+use Rattle.stream.proofs.Members.{found, In, Among, among-all, every-in, in-every, some-in, in-some, each, some-out, once-in, unique, beside, neighbours-in, neighbours-rise}
 
 -- a part of a cutting, with what links it
 unfoldable pub Tied : (Kept → Kept → Type 0) → List Kept → Type 0
@@ -122,5 +122,14 @@ module _ (rs : List Kept) (c k : ℕ) (counts : Rising at c rs) (serials : Risin
     pub torn-where : Cut Joined Parted gs → (p f : Kept) → Neighbours p f rs → round p ≡ round f → Some (λ a. Own rs p a × Own rs f a) os ⊎ (tears ≤ lostBetween p f)
     torn-where cut p f n r =
         ⊎-elim (λ (s : Some (λ g. In p g × In f g) gs). inl (some-out Part rs (λ a. Own rs p a × Own rs f a) (λ g. In p g × In f g) (λ g a q w i. (part-own p g a q w (i .0), part-own f g a q w (i .1))) gs os parts (among-all rs (flat gs) whole) s))
-        (λ (s : Parted p f). inr (s r))
+        (λ (s : Parted p f). inr (omega (arith, s r, rises)))
         (beside Joined Parted p f gs cut (subst⁻¹ (Neighbours p f) whole n))
+      where
+        -- of one round, the later one has the higher type
+        rises : typeOf p < typeOf f
+        rises =
+            let i = neighbours-in rs p f n in
+            omega (arith, r, later, every-in Typed rs p known (i .0) .typed, every-in Typed rs f known (i .1) .typed)
+          where
+            later : p .serial < f .serial
+            later = unfold serial in neighbours-rise serial rs k p f serials n

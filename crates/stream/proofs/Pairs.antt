@@ -1,4 +1,4 @@
--- A cutting of two records: each by itself, or both together.
+-- A cutting of one record, and of two: each by itself, or both together.
 -- Assumes nothing.
 use mathlib.Core.Path.{_≡_, ap, subst}
 use mathlib.Core.List.{List, [], _∷_, _++_}
@@ -11,6 +11,15 @@ use Rattle.stream.specs.Sending.{Kept}
 
 heads : (x y p f : Kept) (xs : List Kept) → x ∷ y ∷ xs ≡ p ∷ f ∷ [] → (x ≡ p) × (y ≡ f)
 heads x y p f xs e = (cc, cc)
+
+pub of-one : (R S : Kept → Kept → Type 0) (p : Kept) (gs : List (List Kept)) → flat gs ≡ p ∷ [] → Cut R S gs → gs ≡ (p ∷ []) ∷ []
+unfolding flat Cut
+of-one R S p [] e c = let y : _≡_ {A = ℕ} 0 1 = ap length e in absurd (omega arith)
+of-one R S p ([] ∷ gs) e c = absurd c
+of-one R S p ((x ∷ []) ∷ []) e c = ap (λ (g : List Kept). g ∷ []) e
+of-one R S p ((x ∷ []) ∷ ([] ∷ gs)) e c = absurd (c .2)
+of-one R S p ((x ∷ []) ∷ ((y ∷ ys) ∷ gs)) e c = let h : suc (suc (length (ys ++ flat gs))) ≡ 1 = ap length e in absurd (omega arith)
+of-one R S p ((x ∷ y ∷ xs) ∷ gs) e c = let h : suc (suc (length (xs ++ flat gs))) ≡ 1 = ap length e in absurd (omega arith)
 
 module _ (R S : Kept → Kept → Type 0) (p f : Kept) where
   pub record Split (gs : List (List Kept)) : Type 0 where

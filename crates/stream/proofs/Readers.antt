@@ -2,17 +2,22 @@
 -- breaks that as they do.
 -- Assumes nothing.
 use mathlib.Core.Path.{_≡_, refl, sym, ap, subst, subst⁻¹, _∙_}
-use mathlib.Core.Bool.{Bool, true, false, cond}
+use mathlib.Core.Bool.{Bool, true, false, cond, and-false}
 use mathlib.Core.List.{List, [], _∷_}
-use mathlib.Core.Logic.{inl, inr, ⊎-elim}
+use mathlib.Core.Logic.{⊎-elim}
 use Prim.Native.Nat.{ℕ, _*_, _<_, _≤_}
 use native.Mathlib.Omega.{arith}
+use lib.Dec.{eqb, eqb→eq}
 use lib.ListN.{length, getD, getD-replicate}
+use Rattle.tables.specs.Upto.{both}
 use Rattle.tables.specs.Every.{Every}
+use Rattle.tables.proofs.Upto.{upto-at}
 use Rattle.tables.proofs.Every.{every-joined}
+use Rattle.record.specs.Layout.{scienceBytes}
 use Rattle.record.specs.Contents.{recordOf}
-use Rattle.carriage.specs.Carriage.{types, place}
-use Rattle.carriage.proofs.EachCell.{place-cell}
+use Rattle.carriage.specs.Carriage.{cells, carrier, byteOf}
+use Rattle.carriage.proofs.EachCell.{once}
+use Rattle.cells.specs.Raw.{holdsCell}
 use Rattle.cells.specs.Laying.{cellsSize}
 use Rattle.listing.specs.Lines.{framesHeld, cellsHeld}
 use Rattle.state.specs.Accumulation.{joins, started}
@@ -26,18 +31,19 @@ use Rattle.state.proofs.Told.{all-pass, passed-size}
 use Rattle.state.proofs.Keeping.{fresh-sound}
 use Rattle.reader.specs.Steps.{Buffers, input}
 use Rattle.stream.specs.Running.{Reader, Call, traceOf, called, ClosedAccumulation, accumulationOut, accumulations}
-use Rattle.stream.specs.Lists.{ExactlyOne, Pairwise, sum}
-use Rattle.stream.specs.Sending.{Fate, kept, Sends, fed, ExtraRefused, Stream, Kept, keptOf, reals, realUnspoiled}
+use Rattle.stream.specs.Lists.{Pairwise, sum, total}
+use Rattle.stream.specs.Sending.{Fate, kept, Sends, fed, ExtraRefused, Stream, Kept, keptOf, reals, realUnspoiled, KeptAccepted}
 use Rattle.stream.specs.Cutting.{at, typeOf, Joined, Parted}
-use Rattle.stream.specs.Filling.{Stands, Filled}
+use Rattle.stream.specs.Filling.{Filled, packet}
 use Rattle.stream.specs.Demand.{cellsListed}
-use Rattle.stream.specs.Once.{Own}
+use Rattle.stream.specs.Once.{cellsFilled, isFilled, hasByte}
 use Rattle.stream.specs.Law.{Keeps, Meets}
-use Rattle.stream.specs.Readers.{RefusesAll, FixedAnswer, StoresNothing, Nods, NeverSaysJoins, NeverJoins, MadeUp}
+use Rattle.stream.specs.Readers.{RefusesAll, FixedAnswer, StoresNothing, Nods, NeverSaysJoins, NeverJoins, MadeUp, FixedFrames}
+use Rattle.stream.proofs.Counting.{total-none}
 use Rattle.stream.proofs.Runs.{answered, only-call}
-use Rattle.stream.proofs.Calls.{noCells, opening, joining}
+use Rattle.stream.proofs.Calls.{opening, joining}
 use Rattle.stream.proofs.Parts.{Ready, accepts, moves, start}
-use Rattle.stream.proofs.Pairs.{Split, Whole, of-two}
+use Rattle.stream.proofs.Pairs.{Split, Whole, of-two, of-one}
 use Rattle.stream.proofs.Made.{lent, lent-lengths, lent-sized, made, Right, five, six, real-five, real-six, sent-five, sent-six}
 
 -- type 5 at count 100 to the fresh reader, then type 6 at count 101
@@ -73,14 +79,6 @@ second-joins : joins (now .result .state .accumulation) (typeOf second) (at seco
 unfolding joins first second
 second-joins = rw (first-opens, is-five .typed, is-five .counted, is-six .typed, is-six .counted)
 
--- its type, and a cell of 0
-type-first : typeOf first ≡ 5
-unfolding first
-type-first = is-five .typed
-
-none-at : (t : ℕ) → t < types → getD noCells (place t 0) 0 ≡ 0
-none-at t h = getD-replicate {A = ℕ} cellsSize (place t 0) 0 0 (omega (arith, place-cell t 0 h (omega arith)))
-
 module _ (R : Reader) (keeps : Keeps R) where
   is-call : (s : State) (b : Buffers) (r : List ℕ) → R .steps s b r ≡ called s b r
   is-call s b r = only-call s b r (R .steps s b r) (keeps .steps s b r)
@@ -112,15 +110,15 @@ module _ (R : Reader) (keeps : Keeps R) where
 one : List Fate
 one = kept (made 100 5) ∷ []
 
-both : List Fate
-both = kept (made 100 5) ∷ kept (made 101 6) ∷ []
+pair : List Fate
+pair = kept (made 100 5) ∷ kept (made 101 6) ∷ []
 
 real-one : realUnspoiled 5 one ≡ first ∷ []
 unfolding one keptOf reals first
 real-one = rw (real-five 100)
 
-real-both : realUnspoiled 5 both ≡ first ∷ second ∷ []
-unfolding both keptOf reals first second
+real-both : realUnspoiled 5 pair ≡ first ∷ second ∷ []
+unfolding pair keptOf reals first second
 real-both = rw (real-five 100, real-six 101)
 
 -- what is handed out by one that stores nothing
@@ -140,26 +138,29 @@ all-lent R h (r ∷ rs) s b =
     (out-lent (R .steps s b r .result .accumulation) (R .steps s b r .left .finishedCells) (b .finishedCells) (ap (λ (x : Buffers). x .finishedCells) (h .steps s b r)))
     (subst⁻¹ (λ (x : Buffers). Every (λ a. a .cells ≡ b .finishedCells) (accumulations (traceOf R (R .steps s b r .result .state) x rs))) (h .steps s b r) (all-lent R h rs (R .steps s b r .result .state) b))
 
--- the one that has it also has what follows from it, and what all have
-its-own : {A : Type 0} (P Q Z : A → Type 0) (xs : List A) → ExactlyOne P xs → Every (λ x. P x → Q x) xs → Every Z xs → ((x : A) → Q x → Z x → ⊥) → ⊥
-unfolding ExactlyOne Every
-its-own P Q Z [] e q z k = e
-its-own P Q Z (x ∷ xs) (inl e) q z k = k x (q .0 (e .0)) (z .0)
-its-own P Q Z (x ∷ xs) (inr e) q z k = its-own P Q Z xs (e .1) (q .1) (z .1) k
+-- no cell of 0 has a byte of the first record, whose bytes are 1
+science-ones : (k : ℕ) → k < 83 → getD (scienceBytes (packet first)) k 0 ≡ 1
+unfolding first made both
+science-ones k h = eqb→eq _ _ (upto-at (λ k. eqb (getD (scienceBytes (packet first)) k 0) 1) 83 tt k h)
 
-not-there : (a : ClosedAccumulation) → Stands first a → a .cells ≡ lent .finishedCells → ⊥
-unfolding first made lent
-not-there a s e =
-    let y : getD (a .cells) (place 5 0) 0 ≡ 1 = subst (λ (t : ℕ). getD (a .cells) (place t 0) 0 ≡ 1) type-first (s .science 0 (omega arith)) in
-    omega (arith, y, ap (λ (c : List ℕ). getD c (place 5 0) 0) e ∙ none-at 5 (omega arith))
+no-byte : (a : ClosedAccumulation) (p : ℕ) → a .cells ≡ lent .finishedCells → p < cells → isFilled (first ∷ []) a p ≡ false
+unfolding hasByte lent
+no-byte a p e l =
+    let z : getD (a .cells) p 0 ≡ 0 = ap (λ (c : List ℕ). getD c p 0) e ∙ getD-replicate {A = ℕ} cellsSize p 0 0 (omega arith) in
+    rw (z, science-ones (byteOf p) (once p l .is-byte), and-false (eqb (typeOf first) (carrier p))) (and-false (holdsCell (a .report .held) p))
+
+none-filled : (os : List ClosedAccumulation) → Every (λ a. a .cells ≡ lent .finishedCells) os → sum (λ a. total (λ p. cond (isFilled (first ∷ []) a p) 1 0) cells) os ≡ 0
+unfolding Every sum
+none-filled [] h = refl
+none-filled (a ∷ os) h = omega (arith, total-none (λ p. cond (isFilled (first ∷ []) a p) 1 0) cells (λ p l. rw (no-byte a p (h .0) l)), none-filled os (h .1))
 
 module _ (R : Reader) where
   stream-one : Stream 100 5 one lent (traceOf R fresh lent (fed one))
   unfolding one Sends fed ExtraRefused traceOf
   stream-one = record { sent = (sent-five 100 5 (omega arith) (omega arith) refl, tt); right = lent-sized; refused = tt }
 
-  stream-both : Stream 100 5 both lent (traceOf R fresh lent (fed both))
-  unfolding both Sends fed ExtraRefused traceOf
+  stream-both : Stream 100 5 pair lent (traceOf R fresh lent (fed pair))
+  unfolding pair Sends fed ExtraRefused traceOf
   stream-both = record {
     sent = (sent-five 100 5 (omega arith) (omega arith) refl, (rw (real-five 100) (sent-six 101 6 (omega arith) (omega arith) refl), tt));
     right = lent-sized;
@@ -170,17 +171,21 @@ module _ (R : Reader) where
     cells-one : cellsListed (traceOf R fresh lent (fed one)) ≡ 83
     cells-one = meets one lent 100 5 stream-one .0 .cells-sum ∙ ap (λ (g : List Kept). 83 * length g) real-one
 
-    cells-both : cellsListed (traceOf R fresh lent (fed both)) ≡ 166
-    cells-both = meets both lent 100 5 stream-both .0 .cells-sum ∙ ap (λ (g : List Kept). 83 * length g) real-both
+    cells-both : cellsListed (traceOf R fresh lent (fed pair)) ≡ 166
+    cells-both = meets pair lent 100 5 stream-both .0 .cells-sum ∙ ap (λ (g : List Kept). 83 * length g) real-both
 
     -- "Made-up frame or cell counts break 3, since they are counted from the records fed"
     pub not-made-up : MadeUp R → ⊥
-    not-made-up h = omega (arith, cells-one, cells-both, h lent (fed one) (fed both))
+    not-made-up h = omega (arith, cells-one, cells-both, h lent (fed one) (fed pair))
 
     -- "One that handles the first record and then only nods breaks demand 3": its total is that of the first
-    nodded : Nods R → accumulations (traceOf R fresh lent (fed both)) ≡ accumulations (traceOf R fresh lent (fed one))
-    unfolding one both fed traceOf accumulations
-    nodded h = rw (h .closes lent (made 100 5) (made 101 6), h .state lent (made 100 5) (made 101 6), h .left lent (made 100 5) (made 101 6))
+    first-accepted : answerNumber (R .steps fresh lent (made 100 5) .result .answer) ≡ 0
+    unfolding one fed traceOf KeptAccepted
+    first-accepted = meets one lent 100 5 stream-one .0 .accepted .0
+
+    nodded : Nods R → accumulations (traceOf R fresh lent (fed pair)) ≡ accumulations (traceOf R fresh lent (fed one))
+    unfolding one pair fed traceOf accumulations
+    nodded h = rw (h .closes lent (made 100 5) (made 101 6) first-accepted, h .state lent (made 100 5) (made 101 6) first-accepted, h .left lent (made 100 5) (made 101 6) first-accepted)
 
     pub not-nodding : Nods R → ⊥
     not-nodding h = omega (arith, cells-one, cells-both, ap (λ (os : List ClosedAccumulation). sum (λ a. cellsHeld (a .report)) os) (nodded h))
@@ -195,18 +200,30 @@ module _ (R : Reader) where
     pub not-never-joining : NeverJoins R → ⊥
     unfolding first second
     not-never-joining h =
-        let d = meets both lent 100 5 stream-both .0 in
+        let d = meets pair lent 100 5 stream-both .0 in
         ⊎-elim (λ (s : Split Joined Parted first second (d .parts)). omega (arith, s .related refl))
-        (λ (w : Whole Joined Parted first second (d .parts)). not-both (accumulations (traceOf R fresh lent (fed both))) (h lent (fed both)) (subst (λ (gs : List (List Kept)). Pairwise Filled gs (accumulations (traceOf R fresh lent (fed both)))) (w .is) (d .parts-out)))
+        (λ (w : Whole Joined Parted first second (d .parts)). not-both (accumulations (traceOf R fresh lent (fed pair))) (h lent (fed pair)) (subst (λ (gs : List (List Kept)). Pairwise Filled gs (accumulations (traceOf R fresh lent (fed pair)))) (w .is) (d .parts-out)))
         (of-two Joined Parted first second (d .parts) (d .parts-whole ∙ real-both) (d .parts-cut))
 
-    -- "One that accepts and stores nothing breaks ... demand 3's total": what it hands out is what was lent
+    -- "Made-up frame ... counts": the first alone has one frame, both have two
+    frames-in : (g : List Kept) (n : ℕ) (os : List ClosedAccumulation) → Every (λ a. framesHeld (a .report) ≡ n) os → Pairwise Filled (g ∷ []) os → n ≡ length g
+    unfolding Every Pairwise
+    frames-in g n [] e h = absurd h
+    frames-in g n (a ∷ []) e h = sym (e .0) ∙ h .0 .frames
+    frames-in g n (a ∷ b ∷ os) e h = absurd (h .1)
+
+    pub not-fixed-frames : (n : ℕ) → FixedFrames R n → ⊥
+    unfolding first second
+    not-fixed-frames n h =
+        let d = meets one lent 100 5 stream-one .0 in
+        let x = frames-in (first ∷ []) n (accumulations (traceOf R fresh lent (fed one))) (h lent (fed one)) (subst (λ (gs : List (List Kept)). Pairwise Filled gs (accumulations (traceOf R fresh lent (fed one)))) (of-one Joined Parted first (d .parts) (d .parts-whole ∙ real-one) (d .parts-cut)) (d .parts-out)) in
+        let e = meets pair lent 100 5 stream-both .0 in
+        ⊎-elim (λ (s : Split Joined Parted first second (e .parts)). omega (arith, s .related refl))
+        (λ (w : Whole Joined Parted first second (e .parts)). omega (arith, x, frames-in (first ∷ second ∷ []) n (accumulations (traceOf R fresh lent (fed pair))) (h lent (fed pair)) (subst (λ (gs : List (List Kept)). Pairwise Filled gs (accumulations (traceOf R fresh lent (fed pair)))) (w .is) (e .parts-out))))
+        (of-two Joined Parted first second (e .parts) (e .parts-whole ∙ real-both) (e .parts-cut))
+
+    -- "One that accepts and stores nothing breaks ... demand 3's total": no cell is filled, since what it hands out was lent
     pub not-idle : StoresNothing R → ⊥
-    unfolding Every
     not-idle h =
         let o = meets one lent 100 5 stream-one .1 in
-        let accs = accumulations (traceOf R fresh lent (fed one)) in
-        let rs = realUnspoiled 5 one in
-        let only = subst (Every (λ f. ExactlyOne (Own rs f) accs)) real-one (o .one) .0 in
-        let there = subst (Every (λ f. Every (λ a. Own rs f a → Stands f a) accs)) real-one (o .there) .0 in
-        its-own (Own rs first) (Stands first) (λ a. a .cells ≡ lent .finishedCells) accs only there (all-lent R h (fed one) fresh lent) not-there
+        omega (arith, o .filled ∙ ap (λ (g : List Kept). 83 * length g) real-one, ap (λ (g : List Kept). cellsFilled g (traceOf R fresh lent (fed one))) real-one, none-filled (accumulations (traceOf R fresh lent (fed one))) (all-lent R h (fed one) fresh lent))

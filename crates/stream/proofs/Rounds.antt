@@ -17,7 +17,7 @@ use Rattle.state.specs.Accumulation.{isOpen, noAccumulation, gap, fewest, most,
 use Rattle.state.specs.declared.accumulation.Accumulation.{Accumulation}
 use Rattle.stream.specs.Running.{ClosedAccumulation}
 use Rattle.stream.specs.Sending.{realTime, next, Kept, reals}
-use Rattle.stream.specs.Cutting.{at, typeOf, lostBetween, tears, Joined, Parted}
+use Rattle.stream.specs.Cutting.{at, typeOf, lostBetween, Joined, Parted}
 use Rattle.stream.specs.Filling.{firstCount}
 use Rattle.stream.proofs.Calls.{cellsWith, noCells, closing, accumulate}
 use Rattle.stream.proofs.Chains.{Next, Chain}
@@ -88,9 +88,9 @@ module _ (g : List Kept) (p f : Kept) (o c k l : ℕ) (t : Ties p o c k l) (n : 
       few : fewest (typeOf p) (typeOf f) ≤ gap (openWith g p o) (at f)
       few = omega (arith, type-is, gap-is)
 
-      go : (b : Bool) → leb (gap (openWith g p o) (at f)) (most (typeOf p) (typeOf f)) ≡ b → tears ≤ lostBetween p f
+      go : (b : Bool) → leb (gap (openWith g p o) (at f)) (most (typeOf p) (typeOf f)) ≡ b → most (typeOf p) (typeOf f) < lostBetween p f
       go true q = absurd (true≢false (sym (rw (i, lt-ltb (typeOf p) (typeOf f) rises, le-leb (fewest (typeOf p) (typeOf f)) (gap (openWith g p o) (at f)) few, q) refl) ∙ e))
-      go false q = omega (arith, leb-false (gap (openWith g p o) (at f)) (most (typeOf p) (typeOf f)) q, gap-is, rises)
+      go false q = omega (arith, leb-false (gap (openWith g p o) (at f)) (most (typeOf p) (typeOf f)) q, gap-is)
 
 -- after a real-time record, after an other one
 ties-real : (f : Kept) (c k l : ℕ) → Next c k l f → realTime (f .bytes) ≡ true → Ties f 0 (at f + 1) (next (f .serial) (f .bytes)) (f .lost)

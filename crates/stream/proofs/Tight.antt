@@ -31,7 +31,7 @@ neither P Q [] e s = s
 neither P Q (x ∷ xs) e (inl b) = e .0 (b .0) (b .1)
 neither P Q (x ∷ xs) e (inr s) = neither P Q xs (e .1) s
 
--- "torn only where 36 or more counts weren't accepted"
+-- "torn in two only where 36 or more counts weren't accepted"
 none-below : (n : ℕ) → n < tears → TornBy n → ⊥
 none-below n h t =
     let rs = realUnspoiled (t .serial) (t .fates) in

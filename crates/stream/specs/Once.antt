@@ -2,19 +2,20 @@
 -- own place; what is handed out comes from such records, of one round, and is 0 elsewhere.
 -- Assumes nothing.
 use mathlib.Core.Path.{_≡_}
-use mathlib.Core.Bool.{true, false}
-use mathlib.Core.List.{List}
+use mathlib.Core.Bool.{Bool, true, false, cond, _&&_, _||_}
+use mathlib.Core.List.{List, [], _∷_}
 use mathlib.Core.Logic.{_⊎_}
-use Prim.Native.Nat.{ℕ, _<_, _≤_}
-use lib.ListN.{getD}
+use Prim.Native.Nat.{ℕ, _*_, _<_, _≤_}
+use lib.Dec.{eqb}
+use lib.ListN.{length, getD}
 use Rattle.tables.specs.Every.{Every}
 use Rattle.tables.specs.Marks.{bitSet}
 use Rattle.record.specs.Layout.{frameCode, scienceBytes}
-use Rattle.carriage.specs.Carriage.{types, cells, carrier, byteOf}
+use Rattle.carriage.specs.Carriage.{types, scienceSize, cells, carrier, byteOf}
 use Rattle.cells.specs.Laying.{topPair, pairAt}
 use Rattle.cells.specs.Raw.{holdsCell}
 use Rattle.state.specs.Major.{slots}
-use Rattle.stream.specs.Lists.{Some, ExactlyOne, Neighbours}
+use Rattle.stream.specs.Lists.{Some, ExactlyOne, Neighbours, sum, total}
 use Rattle.stream.specs.Running.{Trace, ClosedAccumulation, ClosedMajor, accumulations, majors}
 use Rattle.stream.specs.Sending.{Fate, Kept, reals, unspoiled, realUnspoiled}
 use Rattle.stream.specs.Cutting.{at, typeOf, round, unaccepted, tears, major}
@@ -40,6 +41,19 @@ pub record Unmixed (fs : List Kept) (a : ClosedAccumulation) : Type 0 where
       → Some (λ f. (typeOf f ≡ u) × (round f ≡ of) × (pairAt (a .cells) u ≡ topPair (frameCode (packet f)))) fs
   pub no-pair : (u : ℕ) → u < types → bitSet (a .report .held) u ≡ false → pairAt (a .cells) u ≡ 0
 
+-- cell p is filled: its frame is held, and the byte of one of the kept real-time records fs, of the type that carries it, stands
+-- there
+unfoldable pub hasByte : List Kept → ClosedAccumulation → ℕ → Bool
+hasByte [] a p = false
+hasByte (f ∷ fs) a p = (eqb (typeOf f) (carrier p) && eqb (getD (a .cells) p 0) (getD (scienceBytes (packet f)) (byteOf p) 0)) || hasByte fs a p
+
+abbrev pub isFilled : List Kept → ClosedAccumulation → ℕ → Bool
+isFilled fs a p = holdsCell (a .report .held) p && hasByte fs a p
+
+-- the filled cells of all that is handed out
+abbrev pub cellsFilled : List Kept → Trace → ℕ
+cellsFilled fs t = sum (λ a. total (λ p. cond (isFilled fs a p) 1 0) cells) (accumulations t)
+
 -- the major frame of the record f: it has its major number, and holds its slot
 abbrev pub OwnMajor : Kept → ClosedMajor → Type 0
 OwnMajor f m = (m .frame .number ≡ major f) × (bitSet (m .frame .slots) (slot f) ≡ true)
@@ -62,6 +76,8 @@ pub record OnceEach (k : ℕ) (xs : List Fate) (t : Trace) : Type 0 where
   -- some accumulation is both's, or so many weren't
   pub torn : (p f : Kept) → Neighbours p f (realUnspoiled k xs) → round p ≡ round f
       → Some (λ a. Own (realUnspoiled k xs) p a × Own (realUnspoiled k xs) f a) (accumulations t) ⊎ (tears ≤ unaccepted (unspoiled k xs) (at p) (at f))
+  -- "the cells filled number 83 times the real-time frames left unspoiled"
+  pub filled : cellsFilled (realUnspoiled k xs) t ≡ scienceSize * length (realUnspoiled k xs)
   -- and every kept record in its major frame and slot
   pub one-major : Every (λ f. ExactlyOne (OwnMajor f) (majors t)) (unspoiled k xs)
   pub there-major : Every (λ f. Every (λ m. OwnMajor f m → Slotted f m) (majors t)) (unspoiled k xs)

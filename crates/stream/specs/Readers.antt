@@ -27,16 +27,17 @@ RefusesAll R = (s : State) (b : Buffers) (r : List ℕ) → 0 < answerNumber (R 
 abbrev pub FixedAnswer : Reader → Answer → Type 0
 FixedAnswer R x = (s : State) (b : Buffers) (r : List ℕ) → R .steps s b r .result .answer ≡ x
 
--- "One that accepts and stores nothing": whatever it answers, every buffer stays as found
+-- "One that accepts and stores nothing": whatever it answers and reports, every buffer stays as found
 pub record StoresNothing (R : Reader) : Type 0 where
   pub steps : (s : State) (b : Buffers) (r : List ℕ) → R .steps s b r .left ≡ b
   pub finishes : (s : State) (b : Buffers) → R .finishes s b .left ≡ b
 
--- "One that handles the first record and then only nods": what the first call left stays, and the second closes nothing
+-- "One that handles the first record and then only nods": once the first was accepted, what that call left stays, and the next
+-- closes nothing
 pub record Nods (R : Reader) : Type 0 where
-  pub state : (b : Buffers) (r x : List ℕ) → R .steps (R .steps fresh b r .result .state) (R .steps fresh b r .left) x .result .state ≡ R .steps fresh b r .result .state
-  pub left : (b : Buffers) (r x : List ℕ) → R .steps (R .steps fresh b r .result .state) (R .steps fresh b r .left) x .left ≡ R .steps fresh b r .left
-  pub closes : (b : Buffers) (r x : List ℕ) → R .steps (R .steps fresh b r .result .state) (R .steps fresh b r .left) x .result .accumulation ≡ unreported
+  pub state : (b : Buffers) (r x : List ℕ) → answerNumber (R .steps fresh b r .result .answer) ≡ 0 → R .steps (R .steps fresh b r .result .state) (R .steps fresh b r .left) x .result .state ≡ R .steps fresh b r .result .state
+  pub left : (b : Buffers) (r x : List ℕ) → answerNumber (R .steps fresh b r .result .answer) ≡ 0 → R .steps (R .steps fresh b r .result .state) (R .steps fresh b r .left) x .left ≡ R .steps fresh b r .left
+  pub closes : (b : Buffers) (r x : List ℕ) → answerNumber (R .steps fresh b r .result .answer) ≡ 0 → R .steps (R .steps fresh b r .result .state) (R .steps fresh b r .left) x .result .accumulation ≡ unreported
 
 -- "One that never joins": by demand 2 it never says so, by demand 3 no accumulation that it hands out has two frames
 abbrev pub NeverSaysJoins : Reader → Type 0
@@ -45,6 +46,9 @@ NeverSaysJoins R = (s : State) (b : Buffers) (r : List ℕ) (t : Taken) → R .s
 abbrev pub NeverJoins : Reader → Type 0
 NeverJoins R = (b : Buffers) (rs : List (List ℕ)) → Every (λ a. framesHeld (a .report) ≤ 1) (accumulations (traceOf R fresh b rs))
 
--- "Made-up frame or cell counts": the cells listed are as many whatever was fed
+-- "Made-up frame or cell counts": the cells listed are as many whatever was fed, or each accumulation has as many frames
 abbrev pub MadeUp : Reader → Type 0
 MadeUp R = (b : Buffers) (rs rs′ : List (List ℕ)) → cellsListed (traceOf R fresh b rs) ≡ cellsListed (traceOf R fresh b rs′)
+
+abbrev pub FixedFrames : Reader → ℕ → Type 0
+FixedFrames R n = (b : Buffers) (rs : List (List ℕ)) → Every (λ a. framesHeld (a .report) ≡ n) (accumulations (traceOf R fresh b rs))

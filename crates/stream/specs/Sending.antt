@@ -68,7 +68,7 @@ ExtraBroken (kept r ∷ xs) = ExtraBroken xs
 ExtraBroken (removed r ∷ xs) = ExtraBroken xs
 ExtraBroken (extra x ∷ xs) = (0 < broken x) × ExtraBroken xs
 
--- a sent stream with its fates, buffers "of the right sizes" with any content, and a trace of what was fed
+-- a sent stream with its fates, buffers "of the right sizes" with any content, and a trace in which what was never sent is refused
 pub record Stream (c k : ℕ) (xs : List Fate) (b : Buffers) (t : Trace) : Type 0 where
   pub sent : Sends c k xs
   pub right : sized b ≡ true
