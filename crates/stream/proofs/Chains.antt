@@ -1,7 +1,7 @@
 -- The kept records by themselves: what the numbers of one say of the next.
 -- Assumes nothing.
 use mathlib.Core.Path.{_≡_, refl, subst⁻¹, _∙_}
-use mathlib.Core.Bool.{Bool, true, false, cond}
+use mathlib.Core.Bool.{Bool, true, false}
 use mathlib.Core.List.{List, [], _∷_}
 use Prim.Native.Nat.{ℕ, _+_, _%_, _≤_, _<_}
 use native.Mathlib.Omega.{arith}
@@ -38,11 +38,11 @@ loosen (x ∷ xs) c k k′ l p q h =
     (record { bytes = n .bytes; counted = omega arith; losing = omega arith; rising = omega arith; between = omega arith; typed = n .typed }, h .1)
 
 next-near : (k : ℕ) (r : List ℕ) → (k ≤ next k r) × (next k r ≤ k + 1)
-next-near k r = go (realTime r)
+next-near k r = go (realTime r) refl
   where
-    go : (t : Bool) → (k ≤ cond t (k + 1) k) × (cond t (k + 1) k ≤ k + 1)
-    go true = (omega arith, omega arith)
-    go false = (omega arith, omega arith)
+    go : (t : Bool) → realTime r ≡ t → (k ≤ next k r) × (next k r ≤ k + 1)
+    go true e = rw e (omega arith, omega arith)
+    go false e = rw e (omega arith, omega arith)
 
 pub chain : (xs : List Fate) (c k l : ℕ) → Sends c k xs → Chain c k l (keptOf k l xs)
 unfolding Chain Sends keptOf

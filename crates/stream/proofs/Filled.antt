@@ -1,7 +1,7 @@
 -- The filled cells, counted: those whose frame is held are all filled.
 -- Assumes nothing.
 use mathlib.Core.Path.{_≡_, refl, ap, _∙_}
-use mathlib.Core.Bool.{Bool, true, false, cond, _&&_, _||_}
+use mathlib.Core.Bool.{Bool, true, false, cond, _&&_, or-true}
 use mathlib.Core.List.{List, [], _∷_}
 use mathlib.Core.Logic.{inl, inr}
 use Prim.Native.Nat.{ℕ, _+_, _<_}
@@ -26,10 +26,6 @@ unfolding Some hasByte
 has-byte [] a p n s = absurd s
 has-byte (f ∷ fs) a p n (inl e) = rw (eq-eqb (typeOf f) (carrier p) (e .0), eq-eqb (getD (a .cells) p 0) (getD (scienceBytes (packet f)) (byteOf p) 0) (e .2))
 has-byte (f ∷ fs) a p n (inr s) = rw (has-byte fs a p n s) (or-true (eqb (typeOf f) (carrier p) && eqb (getD (a .cells) p 0) (getD (scienceBytes (packet f)) (byteOf p) 0)))
-  where
-    or-true : (b : Bool) → (b || true) ≡ true
-    or-true true = refl
-    or-true false = refl
 
 all-filled : (fs : List Kept) (a : ClosedAccumulation) → Unmixed fs a → total (λ p. cond (isFilled fs a p) 1 0) cells ≡ total (λ p. cond (holdsCell (a .report .held) p) 1 0) cells
 all-filled fs a u = total-same (λ p. cond (isFilled fs a p) 1 0) (λ p. cond (holdsCell (a .report .held) p) 1 0) cells (λ p l. go p l (holdsCell (a .report .held) p) refl)

@@ -1,7 +1,7 @@
 -- The counts that weren't accepted between two kept records are those that were lost.
 -- Assumes nothing.
 use mathlib.Core.Path.{_≡_, refl, sym, ap, subst, _∙_}
-use mathlib.Core.Bool.{Bool, true, false, cond, _||_}
+use mathlib.Core.Bool.{Bool, true, false, cond, _||_, or-true}
 use mathlib.Core.List.{List, [], _∷_}
 use mathlib.Core.Logic.{inl, inr}
 use Prim.Native.Nat.{ℕ, zero, suc, _+_, _-_, _<_, _≤_}
@@ -51,10 +51,6 @@ unfolding hasCount Some
 there [] p i = absurd i
 there (x ∷ ks) p (inl e) = rw (eq-eqb (at p) (at x) (ap (λ (y : Kept). at y) (sym e)))
 there (x ∷ ks) p (inr i) = rw (there ks p i) (or-true (eqb (at p) (at x)))
-  where
-    or-true : (b : Bool) → (b || true) ≡ true
-    or-true true = refl
-    or-true false = refl
 
 -- a kept record's count: as many as were kept and lost before it
 count-is : (ks : List Kept) (c k l : ℕ) → Chain c k l ks → (x : Kept) → In x ks → at x + l ≡ c + keptBelow ks (at x) + x .lost
