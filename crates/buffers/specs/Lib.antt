@@ -1,3 +1,4 @@
 pub mod Copying
 pub mod Laying
 pub mod Clearing
+pub mod Working

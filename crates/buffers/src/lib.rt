@@ -1,5 +1,7 @@
-// Buffers: one copied into another of its size, one laid into another from a place on where it has room, one cleared.
+// Buffers: one copied into another of its size, one laid into another from a place on where it has room, one cleared; and what is
+// to be done to an open buffer and the finished one beside it.
 mod numbers;
+mod work;
 
 ghost use mathlib.Core.Path.{_≡_};
 ghost use Prim.Native.Nat.{_+_, _≤_};
@@ -9,6 +11,9 @@ ghost use Rattle.buffers.specs.Laying.{patch, hasRoom, laid};
 ghost use Rattle.buffers.specs.Clearing.{cleared};
 pub use numbers::clear_numbers;
 pub use numbers::copy_numbers;
+pub use work::Work;
+pub use work::closing_work;
+pub use work::no_work;
 
 // A copy goes in blocks. A block is read whole before it is put: so it is one load and one store, though two slices could overlap
 // for all that the compiler knows.

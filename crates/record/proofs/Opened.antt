@@ -6,13 +6,14 @@ use mathlib.Core.List.{List, []}
 use Prim.Native.Nat.{ℕ, _+_, _*_, _≤_}
 use native.Mathlib.Omega.{arith}
 use lib.Dec.{eqb}
-use lib.ListN.{length, length-take, length-drop}
+use lib.ListN.{length, take, drop, length-take, length-drop}
 use borrow.Author.Tests.{eqb-true, eq-eqb, ne-eqb, le-leb}
 use Rattle.bits.specs.Numbers.{wordIn}
-use Rattle.record.specs.Layout.{size, packetSize, packetAt, packetBytes, bytesAt}
+use Rattle.record.specs.Layout.{size, packetSize, packetBytes, bytesAt}
 use Rattle.tables.specs.Rules.{firstBroken}
 use Rattle.record.specs.Rules.{rules, broken, sizeHolds, verdictOf}
-use Rattle.record.specs.Contents.{recordOf, contentsOf, contentsNumber, ContentsIs, packetOf, PacketIs}
+use Rattle.record.specs.Contents.{recordOf, contentsOf, contentsNumber, ContentsIs}
+use Rattle.record.specs.Parts.{PartIs, PacketIs, PacketAtIs}
 use Rattle.record.specs.declared.Record.{Record}
 use Rattle.record.specs.declared.rules.Verdict.{Verdict}
 use Rattle.record.specs.declared.rules.Verdict.the-variants.{Passes, Refused}
@@ -43,9 +44,12 @@ module _ (r : List ℕ) where
     unfolding contentsOf contentsNumber
     with-fields e x f = let z = passed e in record { is = rw (eq-eqb (broken r) 0 z, f); number = sym z }
 
-    pub with-packet : (from : ℕ × ℕ) → v ≡ Passes → PacketIs r from (packetBytes r) (from .0, packetAt + from .1)
-    unfolding packetOf
-    with-packet from e = let z = eq-eqb (broken r) 0 (passed e) in record { bytes = rw z; block = refl; offset = rw z }
+    pub with-packet : (from place : ℕ × ℕ) (p : List ℕ) → v ≡ Passes → PacketAtIs r from p place → PacketIs r from p place
+    with-packet from place p e is =
+        let z = passed e in
+        let t = eq-eqb (broken r) 0 z in
+        let h = eq-eqb (length r) size (sized z) in
+        record { bytes = rw t (rw h at (is .bytes)); block = is .block; offset = rw t (rw h at (is .offset)) }
 
     module _ (n : ℕ) (e : v ≡ Refused n) where
       broken-is : broken r ≡ n
@@ -59,5 +63,12 @@ module _ (r : List ℕ) where
       without-fields = record { is = rw (fails, broken-is); number = sym broken-is }
 
       pub without-packet : (from : ℕ × ℕ) → PacketIs r from [] from
-      unfolding packetOf
       without-packet from = record { bytes = rw fails; block = refl; offset = rw fails }
+
+-- a part of bytes that are of the size named, and none of others
+module _ (b : List ℕ) (size at n : ℕ) (from : ℕ × ℕ) where
+  pub whole-part : length b ≡ size → (m : ℕ) → m ≡ n → PartIs (eqb (length b) size) at n b from (take m (drop at b)) (from .0, at + from .1)
+  whole-part h m e = let t = eq-eqb (length b) size h in record { bytes = rw (t, e); block = refl; offset = rw t }
+
+  pub no-part : (length b ≡ size → ⊥) → PartIs (eqb (length b) size) at n b from [] from
+  no-part h = let t = ne-eqb (length b) size h in record { bytes = rw t; block = refl; offset = rw t }

@@ -1,14 +1,16 @@
 -- One answer: any two outcomes that a promise allows are equal, for each public function.
--- (`bits_of` promises an equation: `one` of tables is its law.)
+-- (`bits_of`, `carries_mag` and `carries_science` promise an equation: `one` of tables is its law.)
 -- Assumes nothing.
 use mathlib.Core.Path.{_≡_}
+use mathlib.Core.Bool.{Bool}
 use mathlib.Core.List.{List}
 use Prim.Native.Nat.{ℕ}
 use Rattle.tables.proofs.Single.{one}
 use Rattle.record.specs.Frame.{KindIs}
 use Rattle.record.specs.Signal.{LevelIs}
 use Rattle.record.specs.Rules.{VerdictIs}
-use Rattle.record.specs.Contents.{ContentsIs, PacketIs}
+use Rattle.record.specs.Contents.{ContentsIs}
+use Rattle.record.specs.Parts.{PartIs}
 use Rattle.record.specs.declared.frame.Kind.{Kind}
 use Rattle.record.specs.declared.signal.Level.{Level}
 use Rattle.record.specs.declared.rules.Verdict.{Verdict}
@@ -26,6 +28,7 @@ one-verdict r v w x y = one (x .is) (y .is)
 pub one-contents : (r : List ℕ) (c d : Contents) → ContentsIs r c → ContentsIs r d → c ≡ d
 one-contents r c d x y = one (x .is) (y .is)
 
--- the bytes of the packet part, and where they lie
-pub one-packet : (r : List ℕ) (from : ℕ × ℕ) (p q : List ℕ) (a b : ℕ × ℕ) → PacketIs r from p a → PacketIs r from q b → (p ≡ q) × (a .0 ≡ b .0) × (a .1 ≡ b .1)
-one-packet r from p q a b x y = (one (x .bytes) (y .bytes), one (x .block) (y .block), one (x .offset) (y .offset))
+-- the bytes of a part, and where they lie: of `packet`, `packet_in`, `mag_bytes` and `science_bytes`
+pub one-part : (holds : Bool) (at n : ℕ) (b : List ℕ) (from : ℕ × ℕ) (p q : List ℕ) (x y : ℕ × ℕ)
+    → PartIs holds at n b from p x → PartIs holds at n b from q y → (p ≡ q) × (x .0 ≡ y .0) × (x .1 ≡ y .1)
+one-part holds at n b from p q x y h k = (one (h .bytes) (k .bytes), one (h .block) (k .block), one (h .offset) (k .offset))

@@ -9,7 +9,8 @@ use borrow.Author.Tests.{eq-eqb}
 use Rattle.record.specs.Layout.{size, packetSize, packetBytes}
 use Rattle.record.proofs.Opened.{sized}
 use Rattle.record.specs.Rules.{broken, numberOf, VerdictIs}
-use Rattle.record.specs.Contents.{recordOf, contentsOf, contentsNumber, ContentsIs, packetOf}
+use Rattle.record.specs.Contents.{recordOf, contentsOf, contentsNumber, ContentsIs}
+use Rattle.record.specs.Parts.{packetOf}
 use Rattle.record.specs.declared.Record.{Record}
 use Rattle.record.specs.declared.rules.Verdict.{Verdict}
 use Rattle.record.specs.declared.rules.Verdict.the-variants.{Passes, Refused}
@@ -48,7 +49,6 @@ module _ (r : List ℕ) (c : Contents) (is : ContentsIs r c) where
 
 -- the packet, of a record that passes
 pub packet-told : (r : List ℕ) → broken r ≡ 0 → (packetOf r ≡ packetBytes r) × (length (packetBytes r) ≡ packetSize)
-unfolding packetOf
 packet-told r z =
     let l : length r ≡ size = sized r z in
     (rw (eq-eqb (broken r) 0 z), simp (length-take, length-drop) (omega arith))

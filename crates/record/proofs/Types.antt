@@ -1,17 +1,17 @@
--- The kind of every type, computed once; rule 11 by the kind.
+-- The kind of every type, computed once; rule 11 by the kind; which frames are real-time.
 -- Assumes nothing.
 use mathlib.Core.Path.{_≡_, refl, sym, _∙_}
-use mathlib.Core.Bool.{Bool, true, false, not, _&&_}
+use mathlib.Core.Bool.{Bool, true, false, not, cond, _&&_, false≢true}
 use mathlib.Core.List.{List}
 use Prim.Native.Nat.{ℕ, _<_}
 use native.Mathlib.Omega.{arith}
-use lib.Dec.{T, leb}
+use lib.Dec.{T, eqb, leb}
 use lib.ListN.{length, length-take, length-drop}
-use borrow.Author.Tests.{eq-eqb, ne-eqb}
+use borrow.Author.Tests.{eq-eqb, ne-eqb, leb-true}
 use Rattle.tables.specs.Upto.{both, upto}
 use Rattle.tables.proofs.Upto.{both-left, both-right, upto-at, is-true}
 use Rattle.record.specs.Layout.{size, packetSize, packetBytes, frameType}
-use Rattle.record.specs.Frame.{kindOfType, kindOf, typesOf, KindIs}
+use Rattle.record.specs.Frame.{kindOfType, kindOf, typesOf, KindIs, isRealTime, carriesScience}
 use Rattle.record.specs.Rules.{typeHolds}
 use Rattle.record.specs.declared.frame.Kind.{Kind}
 use Rattle.record.specs.declared.frame.Kind.the-variants.{RealTime, Other, Undefined}
@@ -68,3 +68,22 @@ eleven r h =
     rw (kind-if p l)
     (sym
     (same-is _ _ (both-right (typesOf (kindOfType (frameType p)) (frameType p)) (same (defined (kindOfType (frameType p))) (not (leb 58 (frameType p) && leb (frameType p) 61))) (right-here p))))
+
+-- the frames that carry science are the real-time ones
+pub science-real : (k : Kind) → carriesScience k ≡ isRealTime k
+unfolding carriesScience isRealTime
+science-real (RealTime t) = refl
+science-real Other = refl
+science-real Undefined = refl
+
+-- and a real-time frame's type is below 36
+pub real-type : (p : List ℕ) → isRealTime (kindOf p) ≡ true → frameType p < 36
+unfolding isRealTime kindOf kindOfType
+real-type p e = go (eqb (length p) packetSize) (leb (frameType p) 35) (leb 58 (frameType p) && leb (frameType p) 61) refl e
+  where
+    go : (a b c : Bool) → leb (frameType p) 35 ≡ b
+        → isRealTime (cond a (cond b (RealTime (frameType p)) (cond c Undefined Other)) Undefined) ≡ true → frameType p < 36
+    go true true c t e = omega (arith, leb-true (frameType p) 35 t)
+    go true false true t e = absurd (false≢true e)
+    go true false false t e = absurd (false≢true e)
+    go false b c t e = absurd (false≢true e)

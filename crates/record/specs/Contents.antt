@@ -1,11 +1,11 @@
--- The fields of a record that passes, and the packet part (01, "The record", "The packet").
+-- The fields of a record that passes (01, "The record", "The packet").
 -- Assumes nothing.
 use mathlib.Core.Bool.{cond}
-use Prim.Native.Nat.{ℕ, _+_}
-use mathlib.Core.List.{List, []}
+use Prim.Native.Nat.{ℕ}
+use mathlib.Core.List.{List}
 use mathlib.Core.Path.{_≡_}
 use lib.Dec.{eqb}
-use Rattle.record.specs.Layout.{count, packetAt, packetBytes, day, millisecond, level, quality, firstFlag, secondFlag, thirdFlag, frameCode, frameType, subcom}
+use Rattle.record.specs.Layout.{count, packetBytes, day, millisecond, level, quality, firstFlag, secondFlag, thirdFlag, frameCode, frameType, subcom}
 use Rattle.record.specs.Frame.{kindOf}
 use Rattle.record.specs.Signal.{levelOf}
 use Rattle.record.specs.Rules.{broken}
@@ -46,14 +46,3 @@ contentsNumber (Refused n) = n
 pub record ContentsIs (r : List ℕ) (c : Contents) : Type 0 where
   pub is : c ≡ contentsOf r
   pub number : contentsNumber c ≡ broken r
-
--- bytes 286 to 453, or none
-unfoldable pub packetOf : List ℕ → List ℕ
-packetOf r = cond (eqb (broken r) 0) (packetBytes r) []
-
--- the part handed back: its bytes, and that they are the caller's own. A slice lies in a block of memory, the place's `.0`, from
--- an offset on, its `.1`: the part lies in the record's block, 286 bytes on (the empty part at the record's start)
-pub record PacketIs (r : List ℕ) (from : ℕ × ℕ) (p : List ℕ) (at : ℕ × ℕ) : Type 0 where
-  pub bytes : p ≡ packetOf r
-  pub block : at .0 ≡ from .0
-  pub offset : at .1 ≡ cond (eqb (broken r) 0) (packetAt + from .1) (from .1)

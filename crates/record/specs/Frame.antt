@@ -1,7 +1,7 @@
 -- The kind of a frame (01, "The packet").
 -- Assumes nothing.
 use Prim.Native.Nat.{ℕ}
-use mathlib.Core.Bool.{Bool, true, cond, _&&_, _||_}
+use mathlib.Core.Bool.{Bool, true, false, cond, _&&_, _||_}
 use mathlib.Core.List.{List}
 use mathlib.Core.Path.{_≡_}
 use lib.Dec.{eqb, leb}
@@ -28,3 +28,20 @@ typesOf Undefined u = leb 58 u && leb u 61
 pub record KindIs (p : List ℕ) (k : Kind) : Type 0 where
   pub is : k ≡ kindOf p
   pub typed : length p ≡ packetSize → typesOf k (frameType p) ≡ true
+
+unfoldable pub isRealTime : Kind → Bool
+isRealTime (RealTime t) = true
+isRealTime Other = false
+isRealTime Undefined = false
+
+-- "In the base an "other" frame gives its subcom word and nothing more": so its MAG isn't kept
+unfoldable pub carriesMag : Kind → Bool
+carriesMag (RealTime t) = true
+carriesMag Other = false
+carriesMag Undefined = false
+
+-- and it has no science of an accumulation
+unfoldable pub carriesScience : Kind → Bool
+carriesScience (RealTime t) = true
+carriesScience Other = false
+carriesScience Undefined = false

@@ -3,3 +3,4 @@ pub mod Frame
 pub mod Signal
 pub mod Rules
 pub mod Contents
+pub mod Parts

@@ -1,6 +1,6 @@
 // The kind of a frame, by the Frame Type in the low six bits of the Frame Code (000, section 2.1; 01, "The packet").
 ghost use mathlib.Core.Path.{_≡_};
-ghost use Rattle.record.specs.Frame.{kindOfType, KindIs};
+ghost use Rattle.record.specs.Frame.{kindOfType, KindIs, carriesMag, carriesScience};
 use crate::Record;
 
 pub enum Kind {
@@ -28,4 +28,26 @@ pub fn kind_of(packet: &[u8]) -> Kind
     }
     let t = packet[Record::CODE_AT] % 64;
     kind_of_type(t)
+}
+
+// Does a frame of this kind carry MAG that is kept?
+pub fn carries_mag(kind: Kind) -> bool
+    ensures { λ b. ⌜ b ≡ carriesMag kind ⌝ }
+{
+    match kind {
+        Kind::RealTime(_) => true,
+        Kind::Other => false,
+        Kind::Undefined => false,
+    }
+}
+
+// Does it carry science bytes of an accumulation?
+pub fn carries_science(kind: Kind) -> bool
+    ensures { λ b. ⌜ b ≡ carriesScience kind ⌝ }
+{
+    match kind {
+        Kind::RealTime(_) => true,
+        Kind::Other => false,
+        Kind::Undefined => false,
+    }
 }

@@ -7,8 +7,13 @@ mod signal;
 mod values;
 
 pub use frame::Kind;
+pub use frame::carries_mag;
+pub use frame::carries_science;
 pub use frame::kind_of;
+pub use part::mag_bytes;
 pub use part::packet;
+pub use part::packet_in;
+pub use part::science_bytes;
 pub use rules::Verdict;
 pub use rules::check;
 pub use signal::Level;
@@ -78,5 +83,9 @@ impl Record {
 
     pub const MAG_AT: usize = 3;
 
+    pub const MAG_SIZE: usize = 82;
+
     pub const SCIENCE_AT: usize = 85;
+
+    pub const SCIENCE_SIZE: usize = 83;
 }

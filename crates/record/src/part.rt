@@ -1,16 +1,67 @@
-// The packet part of a record: the caller's own bytes (01, "The record").
-ghost use Rattle.record.specs.Contents.{PacketIs};
+// The packet part of a record, and the parts of a packet: the caller's own bytes (01, "The record", "The packet").
+ghost use Prim.Native.Nat.{_+_, _≤_};
+ghost use lib.Dec.{eqb};
+ghost use lib.ListN.{length};
+ghost use Rattle.record.specs.Parts.{PartIs, PacketIs, PacketAtIs, MagIs, ScienceIs};
 use crate::Record;
 use crate::rules::Verdict;
 use crate::rules::check;
 
-// Bytes 286 to 453, or an empty part where one of rules 2 to 11 fails.
+// The n bytes from place `at` on, of bytes that are of the size named; of others an empty part, at their start.
+fn part<'a>(b: &'a [u8], size: usize, at: usize, n: usize) -> &'a [u8]
+    requires { ⌜ at + n ≤ size ⌝ }
+    ensures { λ p. ⌜ PartIs (eqb (length (now (b .entry))) size) at n (now (b .entry)) (b .entry .ptr) (now p) (p .ptr) ⌝ }
+{
+    if b.len() != size {
+        return &b[..0];
+    }
+    &b[at..at + n]
+}
+
+// Bytes 286 to 453 of a record's 472, whatever they are. Of a record that passes they are its packet part, without a second look
+// at the rules.
+pub fn packet_in<'a>(r: &'a [u8]) -> &'a [u8]
+    ensures { λ p. ⌜ PacketAtIs (now (r .entry)) (r .entry .ptr) (now p) (p .ptr) ⌝ }
+{
+    part(
+        r,
+        Record::SIZE,
+        Record::PACKET_AT,
+        Record::PACKET_SIZE,
+    )
+}
+
+// The packet part: bytes 286 to 453, or an empty part where one of rules 2 to 11 fails.
 pub fn packet<'a>(r: &'a [u8]) -> &'a [u8]
     ensures { λ p. ⌜ PacketIs (now (r .entry)) (r .entry .ptr) (now p) (p .ptr) ⌝ }
 {
     let verdict = check(r);
     match verdict {
-        Verdict::Passes => &r[Record::PACKET_AT..Record::PACKET_END],
+        Verdict::Passes => packet_in(r),
         Verdict::Refused(_) => &r[..0],
     }
+}
+
+// The MAG bytes of a packet.
+pub fn mag_bytes<'a>(packet: &'a [u8]) -> &'a [u8]
+    ensures { λ p. ⌜ MagIs (now (packet .entry)) (packet .entry .ptr) (now p) (p .ptr) ⌝ }
+{
+    part(
+        packet,
+        Record::PACKET_SIZE,
+        Record::MAG_AT,
+        Record::MAG_SIZE,
+    )
+}
+
+// Its ER bytes.
+pub fn science_bytes<'a>(packet: &'a [u8]) -> &'a [u8]
+    ensures { λ p. ⌜ ScienceIs (now (packet .entry)) (packet .entry .ptr) (now p) (p .ptr) ⌝ }
+{
+    part(
+        packet,
+        Record::PACKET_SIZE,
+        Record::SCIENCE_AT,
+        Record::SCIENCE_SIZE,
+    )
 }

@@ -1,10 +1,7 @@
 -- `record::part::packet` meets its contract.
 -- Assumes nothing.
-use mathlib.Core.Path.{_≡_}
-use lib.ListN.{length}
 use denote.Ref.{now}
-use Rattle.record.specs.Layout.{size}
-use Rattle.record.proofs.Opened.{sized, passed, with-packet, without-packet}
+use Rattle.record.proofs.Opened.{with-packet, without-packet}
 use borrow.Author.Needs.{needs}
 use Rattle.record.proofs.part.packet.Statement.{statement}
 use Rattle.record.proofs.part.packet.Tie as tie
@@ -15,14 +12,8 @@ check-requires c κs = search needs
 enum-told : tie.Need-enum-told
 enum-told c = search needs
 
-sub-result : tie.Need-sub-result
-sub-result c = search needs
-
-part-result-start : tie.Need-part-result-start
-part-result-start c = search needs
-
-part-result-end : tie.Need-part-result-end
-part-result-end c = let r = now (c .before .before .before .before .args .r) in let k = c .before .before .check in let h : length r ≡ size = sized r (passed r (k .result) (k .ensures .is) (c .enum-told .given .1)) in search needs
+packet-in-requires : tie.Need-packet-in-requires
+packet-in-requires c κs = search needs
 
 enum-told-2 : tie.Need-enum-told-2
 enum-told-2 c = search needs
@@ -31,10 +22,16 @@ slice-aggregate-result : tie.Need-slice-aggregate-result
 slice-aggregate-result c = search needs
 
 returns : tie.Need-returns
-returns c = let k = c .before .before .before .check in with-packet (now (c .before .before .before .before .before .args .r)) (k .result) (k .ensures .is) (c .before .before .before .before .before .args .r .ptr) (c .before .enum-told .given .1)
+returns c =
+    let k = c .before .before .before .check in
+    let r = c .before .before .before .before .before .args .r in
+    with-packet (now r) (k .result) (k .ensures .is) (r .ptr) _ _ (c .before .enum-told .given .1) (c .packet-in .ensures)
 
 returns-2 : tie.Need-returns-2
-returns-2 c = let k = c .before .before .before .check in without-packet (now (c .before .before .before .before .before .args .r)) (k .result) (k .ensures .is) _ (c .before .enum-told2 .given .1) (c .before .before .before .before .before .args .r .ptr)
+returns-2 c =
+    let k = c .before .before .before .check in
+    let r = c .before .before .before .before .before .args .r in
+    without-packet (now r) (k .result) (k .ensures .is) _ (c .before .enum-told2 .given .1) (r .ptr)
 
 pub packet-spec : {M : Type 1} → statement M
 packet-spec =
@@ -42,9 +39,7 @@ packet-spec =
     (tie.spec
     check-requires
     enum-told
-    sub-result
-    part-result-start
-    part-result-end
+    packet-in-requires
     enum-told-2
     slice-aggregate-result
     returns

@@ -1,0 +1,4 @@
+pub mod Clauses
+pub mod Facts
+pub mod Keeping
+pub mod Closing

@@ -1,0 +1,71 @@
+// Which frames join the open accumulation (01, "Joining accumulations").
+ghost use mathlib.Core.Path.{_≡_};
+ghost use Prim.Native.Nat.{_<_};
+ghost use Rattle.tables.specs.Marks.{bitSet};
+ghost use Rattle.accumulation.specs.Accumulation.{joins};
+ghost use Rattle.accumulation.specs.Place.{After, inPlace, guardPasses};
+use crate::Accumulation;
+use crate::MARKS;
+
+// Does count d lie after the last frame and the other frames since, is u one of the packet's types, and are the frames held among
+// 36? Of no state that passes the list, and no later record, is it otherwise.
+pub(crate) fn in_place(a: Accumulation, u: u8, d: u64) -> bool
+    ensures { λ b. ⌜ b ≡ inPlace a u d ⌝ }
+{
+    if 63 < u {
+        return false;
+    }
+    if MARKS <= a.held {
+        return false;
+    }
+    if a.held == 0 {
+        return true;
+    }
+    if d <= a.last_count {
+        return false;
+    }
+    a.others < d - a.last_count
+}
+
+// Does a frame with science, of type u at count d, join?
+pub(crate) fn joins_at(a: Accumulation, u: u8, d: u64) -> bool
+    requires { ⌜ After a d ⌝ }
+    ensures { λ b. ⌜ b ≡ joins a u d ⌝ }
+{
+    if a.held == 0 {
+        return false;
+    }
+    if u <= a.last_type {
+        return false;
+    }
+    let apart = (u - a.last_type) as u64;
+    let g = d - a.last_count - 1 - a.others;
+    if g < apart - 1 {
+        return false;
+    }
+    g <= 34 + apart
+}
+
+// Is the type's mark set already?
+fn holds_type(held: u64, u: u8) -> bool
+    requires { ⌜ u < 64 ⌝ }
+    ensures { λ b. ⌜ b ≡ bitSet held u ⌝ }
+{
+    (held >> u) % 2 == 1
+}
+
+// Rule 13, the old guard: false where the frame joins and its type is held already.
+pub fn guard_passes(a: Accumulation, science: bool, u: u8, d: u64) -> bool
+    ensures { λ b. ⌜ b ≡ guardPasses a science u d ⌝ }
+{
+    if !in_place(a, u, d) {
+        return true;
+    }
+    if !science {
+        return true;
+    }
+    if !joins_at(a, u, d) {
+        return true;
+    }
+    !holds_type(a.held, u)
+}

@@ -1,0 +1,134 @@
+-- The open major frame keeps its part of the state list.
+-- Assumes nothing.
+use mathlib.Core.Path.{_≡_, refl, sym, subst, subst⁻¹}
+use mathlib.Core.Bool.{Bool, true, false, cond, _&&_, or-true}
+use Prim.Native.Nat.{ℕ, _+_, _/_, _^_, _<_, _≤_}
+use native.Mathlib.Omega.{arith}
+use lib.Dec.{eqb}
+use lib.ListN.{length, getD, length-set, getD-replicate}
+use lib.Pow.{pow-mono, pow-pos}
+use lib.Seq.{getD-set-same, getD-set-other}
+use borrow.Author.Tests.{eqb-true, eqb-false, eq-eqb, ne-eqb, le-leb}
+use Rattle.tables.specs.Marks.{highest, marked}
+use Rattle.tables.proofs.Marks.{highest-marked, marked-own, marked-other, marked-below, bits-above}
+use Rattle.tables.proofs.Upto.{upto-all}
+use Rattle.clock.specs.Clock.{accepted}
+use Rattle.clock.specs.declared.Clock.{Clock}
+use Rattle.major.specs.Major.{majorNumber, slotOf, noMajor, continues, into, stays, turns, stepMajor}
+use Rattle.major.specs.List.{slotTest, slotHolds, slotsHold, majorNow, noSlot, majorListed}
+use Rattle.major.specs.Shape.{Shaped}
+use Rattle.major.specs.declared.Major.{Major}
+use Rattle.major.proofs.Facts.{Slots, slots-of, is-listed, slot-clauses, well-facts, is-free}
+use Rattle.major.proofs.Parts.{low-marks}
+
+-- a frame that a slot can go into
+pub record Room (m : Major) (u : ℕ) : Type 0 where
+  pub slots : m .slots < 2 ^ u
+  pub mags : m .«mag_slots» < 2 ^ u
+  pub well : (i : ℕ) → i < 16 → slotHolds m i ≡ true
+  pub shaped : Shaped m
+
+pub shaped-none : Shaped noMajor
+shaped-none = record { ranges = refl; words = refl; mags = omega arith }
+
+pub none-well : (i : ℕ) → i < 16 → slotHolds noMajor i ≡ true
+unfolding slotHolds slotTest
+none-well i h = rw (bits-above 0 i (pow-pos i), getD-replicate {A = ℕ} 16 i 0 0 h)
+
+pub room-none : (u : ℕ) → Room noMajor u
+room-none u = record { slots = pow-pos u; mags = pow-pos u; well = none-well; shaped = shaped-none }
+
+module _ (m : Major) (d : ℕ) (t : Room m (slotOf d)) (g w : ℕ) (hg : g ≤ 7) where
+  small : slotOf d < 16
+  small = omega arith
+
+  slot-here : (mag : Bool) → slotHolds (into m d mag g w) (slotOf d) ≡ true
+  unfolding slotHolds slotTest into
+  slot-here true =
+      let len : slotOf d < length (m .ranges) = omega (arith, t .shaped .ranges) in
+      rw (getD-set-same (m .ranges) (slotOf d) g 0 len, le-leb g 7 hg, marked-own (m .«mag_slots») (slotOf d) (t .mags), marked-own (m .slots) (slotOf d) (t .slots))
+  slot-here false =
+      let f = well-facts m (slotOf d) (t .well (slotOf d) small) in
+      let q = bits-above (m .«mag_slots») (slotOf d) (t .mags) in
+      let z : eqb (getD (m .ranges) (slotOf d) 0) 0 ≡ true = rw q at (f .range) in
+      rw (f .fits, q, z, marked-own (m .slots) (slotOf d) (t .slots))
+
+  slot-there : (mag : Bool) (i : ℕ) → i < 16 → (i ≡ slotOf d → ⊥) → slotHolds (into m d mag g w) i ≡ true
+  unfolding slotHolds slotTest into
+  slot-there true i h n =
+      rw (getD-set-other (m .ranges) (slotOf d) i g 0 n, getD-set-other (m .words) (slotOf d) i w 0 n, marked-other (m .«mag_slots») (slotOf d) i (t .mags) n, marked-other (m .slots) (slotOf d) i (t .slots) n) (t .well i h)
+  slot-there false i h n =
+      rw (getD-set-other (m .words) (slotOf d) i w 0 n, marked-other (m .slots) (slotOf d) i (t .slots) n) (t .well i h)
+
+  slots-well : (mag : Bool) (i : ℕ) → i < 16 → slotHolds (into m d mag g w) i ≡ true
+  slots-well mag i h = go (eqb i (slotOf d)) refl
+    where
+      go : (b : Bool) → eqb i (slotOf d) ≡ b → slotHolds (into m d mag g w) i ≡ true
+      go true e = subst (λ (j : ℕ). slotHolds (into m d mag g w) j ≡ true) (sym (eqb-true i (slotOf d) e)) (slot-here mag)
+      go false e = slot-there mag i h (eqb-false i (slotOf d) e)
+
+  slots-some : (mag : Bool) → into m d mag g w .slots ≡ 0 → ⊥
+  unfolding into marked
+  slots-some mag e = omega (arith, pow-pos (slotOf d))
+
+  here : (mag : Bool) → (eqb (into m d mag g w .number) (majorNumber d) && highest (into m d mag g w .slots) (slotOf d)) ≡ true
+  unfolding into
+  here mag = rw (eq-eqb (d / 16) (d / 16) refl) (highest-marked (m .slots) (slotOf d) (t .slots))
+
+  keeps-into : (mag : Bool) → Slots (accepted d) (into m d mag g w)
+  unfolding slotsHold majorNow noSlot
+  keeps-into mag = record {
+    slots = upto-all (slotHolds (into m d mag g w)) 16 (slots-well mag);
+    current = rw (ne-eqb (into m d mag g w .slots) 0 (slots-some mag)) (here mag);
+    empty = rw (ne-eqb (into m d mag g w .slots) 0 (slots-some mag));
+    start = refl;
+  }
+
+  mags-small : (mag : Bool) → into m d mag g w .«mag_slots» < 2 ^ 16
+  unfolding into
+  mags-small true = omega (arith, marked-below (m .«mag_slots») (slotOf d) (t .mags), pow-mono {i = slotOf d + 1} {j = 16} (omega arith))
+  mags-small false = t .shaped .mags
+
+  shaped-into : (mag : Bool) → Shaped (into m d mag g w)
+  unfolding into
+  shaped-into true = record { ranges = simp length-set (t .shaped .ranges); words = simp length-set (t .shaped .words); mags = mags-small true }
+  shaped-into false = record { ranges = t .shaped .ranges; words = simp length-set (t .shaped .words); mags = mags-small false }
+
+-- none open passes with every clock
+pub none-listed : (c : Clock) → majorListed c noMajor ≡ true
+unfolding slotsHold majorNow noSlot
+none-listed c =
+    is-listed c noMajor (record { slots = upto-all (slotHolds noMajor) 16 none-well; current = refl; empty = refl; start = or-true (c .any) })
+
+-- and a record at a later count keeps it, and the shape
+module _ (c : Clock) (m : Major) (d : ℕ) (mag : Bool) (g w : ℕ) (e : majorListed c m ≡ true) (z : Shaped m) (above : c .any ≡ true → c .last < d) (hg : g ≤ 7) where
+  abbrev held-in : Bool → Major
+  held-in t = cond t m noMajor
+
+  room : (t : Bool) → continues m d ≡ t → Room (held-in t) (slotOf d)
+  room true q =
+      let f = is-free c m d e above q in
+      record {
+        slots = f .0;
+        mags = low-marks (m .«mag_slots») (slotOf d) (omega arith) (z .mags) (f .1);
+        well = λ i l. slot-clauses m i (slots-of c m e .slots) l;
+        shaped = z;
+      }
+  room false q = room-none (slotOf d)
+
+  -- the major frame that is stepped to
+  next-is : stepMajor m d mag g w .next ≡ into (held-in (continues m d)) d mag g w
+  unfolding stepMajor
+  next-is = go (continues m d)
+    where
+      go : (t : Bool) → cond t (stays m d mag g w) (turns m d mag g w) .next ≡ into (held-in t) d mag g w
+      go true = refl
+      go false = refl
+
+  pub step-listed : majorListed (accepted d) (stepMajor m d mag g w .next) ≡ true
+  step-listed =
+      subst⁻¹ (λ (n : Major). majorListed (accepted d) n ≡ true) next-is
+      (is-listed (accepted d) _ (keeps-into (held-in (continues m d)) d (room (continues m d) refl) g w hg mag))
+
+  pub step-shaped : Shaped (stepMajor m d mag g w .next)
+  step-shaped = subst⁻¹ Shaped next-is (shaped-into (held-in (continues m d)) d (room (continues m d) refl) g w hg mag)

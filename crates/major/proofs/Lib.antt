@@ -1,0 +1,6 @@
+pub mod Clauses
+pub mod Parts
+pub mod Facts
+pub mod Keeping
+pub mod Closing
+pub mod Single

@@ -1,0 +1,4 @@
+pub mod Major
+pub mod List
+pub mod Place
+pub mod Shape

@@ -1,0 +1,41 @@
+// The open major frame: what a record makes of it, what it reports when it closes, and its part of the state list (01, "Subcom and
+// major frame", "Joining accumulations", "Numbers a refused record gets"). No buffer is touched here.
+mod list;
+mod steps;
+
+pub use list::is_listed;
+pub use steps::no_major;
+pub use steps::no_slot_work;
+pub use steps::report;
+pub use steps::step;
+pub use steps::unreported;
+use buffers::Work;
+
+// Its number, the slots held and those held with MAG (bit s for slot s), their ranges and subcom words. It is open when it holds a
+// slot.
+pub struct Major {
+    pub number: u64,
+    pub slots: u16,
+    pub mag_slots: u16,
+    pub ranges: [u8; 16],
+    pub words: [u16; 16],
+}
+
+// Whether a major frame was closed, and which; all 0 where none was.
+pub struct MajorReport {
+    pub closed: bool,
+    pub frame: Major,
+}
+
+// What is done to the samples, and in which slot a record's own are laid.
+pub struct SlotWork {
+    pub work: Work,
+    pub slot: usize,
+}
+
+// A record's part in it: the major frame after it, what closed, and what is done to the samples.
+pub struct MajorStep {
+    pub next: Major,
+    pub report: MajorReport,
+    pub work: SlotWork,
+}

@@ -1,0 +1,31 @@
+-- `record::frame::carries_mag` meets its contract.
+-- Assumes nothing.
+use Rattle.record.specs.Frame.{carriesMag}
+use borrow.Author.Needs.{needs}
+use Rattle.record.proofs.frame.carries_mag.Statement.{statement}
+use Rattle.record.proofs.frame.carries_mag.Tie as tie
+
+enum-told : tie.Need-enum-told
+enum-told c = search needs
+
+enum-told-2 : tie.Need-enum-told-2
+enum-told-2 c = search needs
+
+enum-told-3 : tie.Need-enum-told-3
+enum-told-3 c = search needs
+
+returns : tie.Need-returns
+unfolding carriesMag
+returns c = search needs
+
+returns-2 : tie.Need-returns-2
+unfolding carriesMag
+returns-2 c = search needs
+
+returns-3 : tie.Need-returns-3
+unfolding carriesMag
+returns-3 c = search needs
+
+pub carries-mag-spec : {M : Type 1} → statement M
+carries-mag-spec =
+    tie.close (tie.spec enum-told enum-told-2 enum-told-3 returns returns-2 returns-3)

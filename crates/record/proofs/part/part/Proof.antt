@@ -1,0 +1,44 @@
+-- `record::part::part` meets its contract.
+-- Assumes nothing.
+use Prim.Native.Nat.{_+_, _-_}
+use denote.Ref.{now}
+use native.Mathlib.Omega.{arith}
+use Rattle.record.proofs.Opened.{whole-part, no-part}
+use borrow.Author.Needs.{needs}
+use Rattle.record.proofs.part.part.Statement.{statement}
+use Rattle.record.proofs.part.part.Tie as tie
+
+slice-aggregate-result : tie.Need-slice-aggregate-result
+slice-aggregate-result c = search needs
+
+returns : tie.Need-returns
+returns c = let a = c .before .before .args in no-part (now (a .b)) (a .size) (a .at) (a .n) (a .b .ptr) (c .before .if1 .taken)
+
+add-result : tie.Need-add-result
+add-result c = search needs
+
+sub-result : tie.Need-sub-result
+sub-result c = search needs
+
+part-result-start : tie.Need-part-result-start
+part-result-start c = search needs
+
+part-result-end : tie.Need-part-result-end
+part-result-end c = omega arith
+
+returns-2 : tie.Need-returns-2
+returns-2 c =
+    let a = c .before .before .args in
+    whole-part (now (a .b)) (a .size) (a .at) (a .n) (a .b .ptr) (c .before .if1 .left) (a .at + a .n - a .at) (omega arith)
+
+pub part-spec : {M : Type 1} → statement M
+part-spec =
+    tie.close
+    (tie.spec
+    slice-aggregate-result
+    returns
+    add-result
+    sub-result
+    part-result-start
+    part-result-end
+    returns-2)

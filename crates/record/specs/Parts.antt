@@ -1,0 +1,36 @@
+-- The packet part of a record, and the parts of a packet (01, "The record", "The packet").
+-- Assumes nothing.
+use Prim.Native.Nat.{ℕ, _+_}
+use mathlib.Core.Bool.{Bool, cond}
+use mathlib.Core.List.{List, []}
+use mathlib.Core.Path.{_≡_}
+use lib.Dec.{eqb}
+use lib.ListN.{length, take, drop}
+use Rattle.record.specs.Layout.{size, packetAt, packetSize, packetBytes}
+use Rattle.record.specs.Rules.{broken}
+
+-- a part handed back: n bytes of b from place `at` on where the test holds, else none; and that they are the caller's own. A slice
+-- lies in a block of memory, the place's `.0`, from an offset on, its `.1`: the part lies in b's block, `at` bytes on (the empty
+-- part at its start)
+pub record PartIs (holds : Bool) (at n : ℕ) (b : List ℕ) (from : ℕ × ℕ) (p : List ℕ) (place : ℕ × ℕ) : Type 0 where
+  pub bytes : p ≡ cond holds (take n (drop at b)) []
+  pub block : place .0 ≡ from .0
+  pub offset : place .1 ≡ cond holds (at + from .1) (from .1)
+
+-- bytes 286 to 453, "or an empty part when rules 2 to 11 fail"
+abbrev pub packetOf : List ℕ → List ℕ
+packetOf r = cond (eqb (broken r) 0) (packetBytes r) []
+
+abbrev pub PacketIs : List ℕ → ℕ × ℕ → List ℕ → ℕ × ℕ → Type 0
+PacketIs r = PartIs (eqb (broken r) 0) packetAt packetSize r
+
+-- the same bytes of anything of a record's size
+abbrev pub PacketAtIs : List ℕ → ℕ × ℕ → List ℕ → ℕ × ℕ → Type 0
+PacketAtIs r = PartIs (eqb (length r) size) packetAt packetSize r
+
+-- "We read bytes ... 3-84 as MAG, 85-167 as ER": `magBytes` and `scienceBytes` (Layout) of a packet; of bytes of another size none
+abbrev pub MagIs : List ℕ → ℕ × ℕ → List ℕ → ℕ × ℕ → Type 0
+MagIs p = PartIs (eqb (length p) packetSize) 3 82 p
+
+abbrev pub ScienceIs : List ℕ → ℕ × ℕ → List ℕ → ℕ × ℕ → Type 0
+ScienceIs p = PartIs (eqb (length p) packetSize) 85 83 p
