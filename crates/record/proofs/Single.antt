@@ -27,5 +27,6 @@ pub one-contents : (r : List ℕ) (c d : Contents) → ContentsIs r c → Conten
 one-contents r c d x y = one (x .is) (y .is)
 
 -- the bytes of the packet part, and where they lie
-pub one-packet : (r : List ℕ) (from : ℕ × ℕ) (p q : List ℕ) (a b : ℕ × ℕ) → PacketIs r from p a → PacketIs r from q b → (p ≡ q) × (a .0 ≡ b .0) × (a .1 ≡ b .1)
+pub one-packet : (r : List ℕ) (from : ℕ × ℕ) (p q : List ℕ) (a b : ℕ × ℕ) → PacketIs r from p a → PacketIs r from q b
+    → (p ≡ q) × (a .0 ≡ b .0) × (a .1 ≡ b .1)
 one-packet r from p q a b x y = (one (x .bytes) (y .bytes), one (x .block) (y .block), one (x .offset) (y .offset))

@@ -8,7 +8,8 @@ use mathlib.Core.Path.{_≡_}
 use lib.Dec.{eqb, leb}
 use lib.ListN.{length}
 use Rattle.tables.specs.Rules.{Rule, rule, firstBroken, holdsIn, beforeHold, allHold}
-use Rattle.record.specs.Layout.{size, sync, version, spacecraft, rate, spare, packetBytes, day, millisecond, statusSpare, firstFlag, secondFlag, thirdFlag, frameType}
+use Rattle.record.specs.Layout.{size, sync, version, spacecraft, rate, spare, packetBytes, frameType}
+use Rattle.record.specs.Layout.{day, millisecond, statusSpare, firstFlag, secondFlag, thirdFlag}
 use Rattle.record.specs.declared.rules.Verdict.{Verdict}
 use Rattle.record.specs.declared.rules.Verdict.the-variants.{Passes, Refused}
 

@@ -22,7 +22,11 @@ part-result-start : tie.Need-part-result-start
 part-result-start c = search needs
 
 part-result-end : tie.Need-part-result-end
-part-result-end c = let r = now (c .before .before .before .before .args .r) in let k = c .before .before .check in let h : length r ≡ size = sized r (passed r (k .result) (k .ensures .is) (c .enum-told .given .1)) in search needs
+part-result-end c =
+    let k = c .before .before in
+    let r = now (k .before .before .args .r) in
+    let h : length r ≡ size = sized r (passed r (k .check .result) (k .check .ensures .is) (c .enum-told .given .1)) in
+    search needs
 
 enum-told-2 : tie.Need-enum-told-2
 enum-told-2 c = search needs
@@ -31,10 +35,16 @@ slice-aggregate-result : tie.Need-slice-aggregate-result
 slice-aggregate-result c = search needs
 
 returns : tie.Need-returns
-returns c = let k = c .before .before .before .check in with-packet (now (c .before .before .before .before .before .args .r)) (k .result) (k .ensures .is) (c .before .before .before .before .before .args .r .ptr) (c .before .enum-told .given .1)
+returns c =
+    let k = c .before .before .before in
+    let r = k .before .before .args .r in
+    with-packet (now r) (k .check .result) (k .check .ensures .is) (r .ptr) (c .before .enum-told .given .1)
 
 returns-2 : tie.Need-returns-2
-returns-2 c = let k = c .before .before .before .check in without-packet (now (c .before .before .before .before .before .args .r)) (k .result) (k .ensures .is) _ (c .before .enum-told2 .given .1) (c .before .before .before .before .before .args .r .ptr)
+returns-2 c =
+    let k = c .before .before .before in
+    let r = k .before .before .args .r in
+    without-packet (now r) (k .check .result) (k .check .ensures .is) _ (c .before .enum-told2 .given .1) (r .ptr)
 
 pub packet-spec : {M : Type 1} → statement M
 packet-spec =
