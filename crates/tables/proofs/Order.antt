@@ -7,7 +7,7 @@ use Prim.Native.Nat.{ℕ, _<_}
 use native.Mathlib.Omega.{arith}
 use lib.Dec.{eqb}
 use borrow.Author.Tests.{eqb-true, eqb-false, eq-eqb, ne-eqb}
-use Rattle.tables.specs.Rules.{Rule, ofPart, firstBroken, holdsIn, beforeHold, allHold, FirstBroken, lacks, apart, distinct}
+use Rattle.tables.specs.Rules.{Rule, rule, ofPart, firstBroken, holdsIn, beforeHold, allHold, FirstBroken, lacks, apart, distinct}
 use Rattle.tables.proofs.Conds.{two}
 
 -- true and false are two
@@ -45,8 +45,7 @@ module _ {A : Type 0} where
         go : (t : Bool) → x .holds r ≡ t → cond t (firstBroken xs r) (x .number) ≡ n
             → (firstBroken xs r ≡ n → (holdsIn xs n r ≡ false) × (beforeHold xs n r ≡ true))
             → (x .number ≡ n → holdsIn xs n r ≡ true)
-            → (cond (eqb (x .number) n) (x .holds r) (holdsIn xs n r) ≡ false)
-            × ((eqb (x .number) n || (x .holds r && beforeHold xs n r)) ≡ true)
+            → (holdsIn (x ∷ xs) n r ≡ false) × (beforeHold (x ∷ xs) n r ≡ true)
         go false t e more once = let i = eq-eqb (x .number) n e in (rw i t, rw i)
         go true t e more once =
             let i = ne-eqb (x .number) n (λ f. never (once f) (more e .0)) in
@@ -60,13 +59,15 @@ module _ {A : Type 0} where
     failing-given (x ∷ xs) n l f b =
         go (eqb (x .number) n) refl f b (other-number x xs 0 l) (failing-given xs n (lacks-more x xs 0 l))
       where
-        go : (t : Bool) → eqb (x .number) n ≡ t → cond t (x .holds r) (holdsIn xs n r) ≡ false
-            → (t || (x .holds r && beforeHold xs n r)) ≡ true
+        go : (t : Bool) → eqb (x .number) n ≡ t → holdsIn (x ∷ xs) n r ≡ false → beforeHold (x ∷ xs) n r ≡ true
             → eqb (x .number) 0 ≡ false
             → (holdsIn xs n r ≡ false → beforeHold xs n r ≡ true → (firstBroken xs r ≡ n) × (0 < n))
             → (cond (x .holds r) (firstBroken xs r) (x .number) ≡ n) × (0 < n)
-        go true t f b z more = let e = eqb-true (x .number) n t in (rw f e, omega (arith, eqb-false (x .number) 0 z))
-        go false t f b z more = let p = two (x .holds r) (beforeHold xs n r) b in rw (p .0) (more f (p .1))
+        go true t f b z more =
+            let e = eqb-true (x .number) n t in
+            let h = rw t at f in
+            (rw h e, omega (arith, eqb-false (x .number) 0 z))
+        go false t f b z more = let p = two (x .holds r) (beforeHold xs n r) (rw t at b) in rw (p .0) (more (rw t at f) (p .1))
 
     none-given : (xs : List (Rule A)) → lacks xs 0 ≡ true → firstBroken xs r ≡ 0 → allHold xs r ≡ true
     unfolding firstBroken allHold
@@ -106,3 +107,18 @@ parts-then part (x ∷ xs) ys b l =
         ≡ cond (eqb (cond t (firstBroken xs (part b)) (x .number)) 0) (firstBroken ys b) (cond t (firstBroken xs (part b)) (x .number))
     go true z e = e
     go false z e = rw z
+
+-- examples: "before" goes by the list and not by the size of the numbers; a number that stands twice is found
+module _ {A : Type 0} (p q s t : A → Bool) where
+  abbrev unordered : List (Rule A)
+  unordered = rule 50 p ∷ rule 53 q ∷ rule 51 s ∷ rule 52 t ∷ []
+
+  of-unordered : (a : A) → FirstBroken unordered a (firstBroken unordered a)
+  of-unordered a = first-broken unordered a refl
+
+  before-51 : (a : A) → beforeHold unordered 51 a ≡ (p a && (q a && true))
+  unfolding beforeHold
+  before-51 a = refl
+
+  one-twice : distinct (rule 50 p ∷ rule 53 q ∷ rule 50 s ∷ []) ≡ false
+  one-twice = refl
