@@ -60,7 +60,7 @@ module _ (s : State) (oc fc oc′ fc′ : List ℕ) (os fs os′ fs′ : List �
           no-accumulation = ap (λ (y : Stepped). y .accumulation) (is .result) ∙ ap (λ (y : Decided). y .stepped .accumulation) q;
         }
 
-    -- "refused exactly when a listed rule fails": with n exactly when rule n fails and those before it hold
+    -- "refused exactly when a listed rule fails": with n exactly when rule n fails and those before it in the list hold
     pub refused-exactly : FirstBroken readerRules i (answerNumber (x .answer))
     refused-exactly = subst⁻¹ (FirstBroken readerRules i) (is .number) (exactly i)
 

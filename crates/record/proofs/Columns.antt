@@ -93,8 +93,9 @@ module _ (r : List ℕ) where
     unfolding millisecondHolds
     millisecond-test =
         let m = millisecond r in
-        let e : ltb m 86400000 ≡ leb m 86399999 = agree (ltb m 86400000) (leb m 86399999) (λ t. le-leb m 86399999 (omega (arith, ltb-true m 86400000 t))) (λ t. lt-ltb m 86400000 (omega (arith, leb-true m 86399999 t))) in
-        rw (word 458 4 (omega arith)) e
+        let below : ltb m 86400000 ≡ true → leb m 86399999 ≡ true = λ t. le-leb m 86399999 (omega (arith, ltb-true m 86400000 t)) in
+        let above : leb m 86399999 ≡ true → ltb m 86400000 ≡ true = λ t. lt-ltb m 86400000 (omega (arith, leb-true m 86399999 t)) in
+        rw (word 458 4 (omega arith)) (agree (ltb m 86400000) (leb m 86399999) below above)
 
     pub status-test : eqb (wordIn r 470 2 / 64) 0 ≡ statusSpareHolds r
     unfolding statusSpareHolds

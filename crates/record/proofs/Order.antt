@@ -1,4 +1,4 @@
--- Refused with n exactly when rule n fails and those before it hold; passes exactly when all hold.
+-- Refused with n exactly when rule n fails and those before it in the list hold; passes exactly when all hold.
 -- Assumes nothing.
 use mathlib.Core.Path.{_≡_, refl, sym, _∙_}
 use mathlib.Core.Bool.{Bool, true, false, cond}
@@ -18,7 +18,7 @@ module _ (r : List ℕ) where
   -- the rules of 01
   first : FirstBroken rules r (broken r)
   unfolding rules broken
-  first = first-broken r rules 2 (omega arith) (refl, (refl, (refl, (refl, (refl, (refl, (refl, (refl, (refl, (refl, tt))))))))))
+  first = first-broken rules r refl
 
   zero-passes : (n : ℕ) → n ≡ 0 → verdictOf n ≡ Passes
   zero-passes n e = rw (eq-eqb n 0 e)

@@ -1,6 +1,6 @@
 -- The kind of every type, computed once; rule 11 by the kind; which frames are real-time.
 -- Assumes nothing.
-use mathlib.Core.Path.{_≡_, refl, sym, _∙_}
+use mathlib.Core.Path.{_≡_, refl, sym, ap, _∙_}
 use mathlib.Core.Bool.{Bool, true, false, not, cond, _&&_, false≢true}
 use mathlib.Core.List.{List}
 use Prim.Native.Nat.{ℕ, _<_}
@@ -46,7 +46,10 @@ module _ (p : List ℕ) where
   right-here = upto-at right 64 every-type (frameType p) small
 
   typed : typesOf (kindOfType (frameType p)) (frameType p) ≡ true
-  typed = is-true _ (both-left (typesOf (kindOfType (frameType p)) (frameType p)) (same (defined (kindOfType (frameType p))) (not (leb 58 (frameType p) && leb (frameType p) 61))) right-here)
+  typed =
+      let t = frameType p in
+      let k = kindOfType t in
+      is-true _ (both-left (typesOf k t) (same (defined k) (not (leb 58 t && leb t 61))) right-here)
 
   kind-if : length p ≡ packetSize → kindOf p ≡ kindOfType (frameType p)
   unfolding kindOf
@@ -64,10 +67,14 @@ pub eleven : (r : List ℕ) → length r ≡ size → typeHolds r ≡ defined (k
 unfolding typeHolds
 eleven r h =
     let p = packetBytes r in
+    let t = frameType p in
+    let k = kindOfType t in
     let l : length p ≡ packetSize = simp (length-take, length-drop) (omega arith) in
-    rw (kind-if p l)
-    (sym
-    (same-is _ _ (both-right (typesOf (kindOfType (frameType p)) (frameType p)) (same (defined (kindOfType (frameType p))) (not (leb 58 (frameType p) && leb (frameType p) 61))) (right-here p))))
+    rw (kind-if p l) (sym (same-is _ _ (both-right (typesOf k t) (same (defined k) (not (leb 58 t && leb t 61))) (right-here p))))
+
+-- and so by the case of the kind that was found
+pub eleven-told : (r : List ℕ) → length r ≡ size → {k v : Kind} → k ≡ kindOf (packetBytes r) → k ≡ v → defined v ≡ typeHolds r
+eleven-told r h e t = ap defined (sym t ∙ e) ∙ sym (eleven r h)
 
 -- the frames that carry science are the real-time ones
 pub science-real : (k : Kind) → carriesScience k ≡ isRealTime k

@@ -5,7 +5,8 @@ use Prim.Native.Nat.{ℕ}
 use mathlib.Core.List.{List}
 use mathlib.Core.Path.{_≡_}
 use lib.Dec.{eqb}
-use Rattle.record.specs.Layout.{count, packetBytes, day, millisecond, level, quality, firstFlag, secondFlag, thirdFlag, frameCode, frameType, subcom}
+use Rattle.record.specs.Layout.{count, packetBytes, day, millisecond, level, quality}
+use Rattle.record.specs.Layout.{firstFlag, secondFlag, thirdFlag, frameCode, frameType, subcom}
 use Rattle.record.specs.Frame.{kindOf}
 use Rattle.record.specs.Signal.{levelOf}
 use Rattle.record.specs.Rules.{broken}

@@ -1,14 +1,15 @@
 -- Rules 2 to 11, "checked in this order; the first that fails is given" (01, "Numbers a refused record gets").
 -- Assumes nothing.
-use Prim.Native.Nat.{ℕ, _<_}
+use Prim.Native.Nat.{ℕ}
 use mathlib.Core.Logic.{_↔_}
 use mathlib.Core.Bool.{Bool, true, false, not, cond, _&&_, _||_}
 use mathlib.Core.List.{List, [], _∷_}
 use mathlib.Core.Path.{_≡_}
 use lib.Dec.{eqb, leb}
 use lib.ListN.{length}
-use Rattle.tables.specs.Rules.{Rule, rule, firstBroken, holdsIn}
-use Rattle.record.specs.Layout.{size, sync, version, spacecraft, rate, spare, packetBytes, day, millisecond, statusSpare, firstFlag, secondFlag, thirdFlag, frameType}
+use Rattle.tables.specs.Rules.{Rule, rule, firstBroken, holdsIn, beforeHold, allHold}
+use Rattle.record.specs.Layout.{size, sync, version, spacecraft, rate, spare, packetBytes, frameType}
+use Rattle.record.specs.Layout.{day, millisecond, statusSpare, firstFlag, secondFlag, thirdFlag}
 use Rattle.record.specs.declared.rules.Verdict.{Verdict}
 use Rattle.record.specs.declared.rules.Verdict.the-variants.{Passes, Refused}
 
@@ -76,10 +77,6 @@ rules =
 unfoldable pub broken : List ℕ → ℕ
 broken r = firstBroken rules r
 
--- whether the rule of number n holds
-abbrev pub ruleHolds : ℕ → List ℕ → Bool
-ruleHolds n r = holdsIn rules n r
-
 abbrev pub verdictOf : ℕ → Verdict
 verdictOf n = cond (eqb n 0) Passes (Refused n)
 
@@ -93,8 +90,8 @@ pub record VerdictIs (r : List ℕ) (v : Verdict) : Type 0 where
   pub is : v ≡ verdictOf (broken r)
   pub number : numberOf v ≡ broken r
 
--- refused with n exactly when rule n fails and those before it hold; passes exactly when all hold. Proved for every list of
--- bytes: `exactly` in proofs/Order.antt
+-- refused with n exactly when rule n fails and those before it in the list hold; passes exactly when all hold. Proved for every
+-- list of bytes: `exactly` in proofs/Order.antt
 pub record Exactly (r : List ℕ) : Type 0 where
-  pub refused : (n : ℕ) → (verdictOf (broken r) ≡ Refused n) ↔ ((ruleHolds n r ≡ false) × ((m : ℕ) → m < n → ruleHolds m r ≡ true))
-  pub passes : (verdictOf (broken r) ≡ Passes) ↔ ((n : ℕ) → ruleHolds n r ≡ true)
+  pub refused : (n : ℕ) → (verdictOf (broken r) ≡ Refused n) ↔ ((holdsIn rules n r ≡ false) × (beforeHold rules n r ≡ true))
+  pub passes : (verdictOf (broken r) ≡ Passes) ↔ (allHold rules r ≡ true)

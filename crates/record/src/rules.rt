@@ -2,7 +2,8 @@
 ghost use mathlib.Core.Path.{_≡_};
 ghost use lib.ListN.{length};
 ghost use Rattle.record.specs.Layout.{size};
-ghost use Rattle.record.specs.Rules.{flagHolds, syncHolds, spacecraftHolds, rateHolds, spareHolds, dayHolds, millisecondHolds, statusSpareHolds, flagsHold, typeHolds, broken, VerdictIs};
+ghost use Rattle.record.specs.Rules.{syncHolds, spacecraftHolds, rateHolds, spareHolds, dayHolds, millisecondHolds};
+ghost use Rattle.record.specs.Rules.{statusSpareHolds, flagHolds, flagsHold, typeHolds, broken, VerdictIs};
 ghost use mathlib.Core.Bool.{cond};
 use crate::Record;
 use crate::frame::Kind;

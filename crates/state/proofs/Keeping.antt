@@ -13,7 +13,7 @@ use lib.Seq.{ext-getD}
 use borrow.Author.Tests.{eqb-true, eqb-false, eq-eqb, lt-ltb, le-leb}
 use Rattle.tables.proofs.Conds.{two, second}
 use Rattle.tables.specs.Marks.{bitSet}
-use Rattle.tables.specs.Rules.{ofPart, holdsIn}
+use Rattle.tables.specs.Rules.{ofPart, holdsIn, beforeHold}
 use Rattle.record.specs.Rules.{rules}
 use Rattle.tables.proofs.Upto.{upto-all}
 use Rattle.tables.proofs.Marks.{bits-above, below}
@@ -182,15 +182,16 @@ fails-13 : (i : Input) → holdsIn readerRules 13 i ≡ false → guardHolds i �
 unfolding holdsIn readerRules rules ofPart
 fails-13 i e = e
 
--- rule 13 can't hit: where it would be asked, rule 1 held (02, request 11)
-holds-1 : (i : Input) → holdsIn readerRules 1 i ≡ true → listed (i .state) ≡ true
-unfolding holdsIn readerRules rules ofPart stateHolds
-holds-1 i e = two (i .sized) (listed (i .state)) e .1
+-- rule 1 stands before rule 13
+holds-1 : (i : Input) → beforeHold readerRules 13 i ≡ true → listed (i .state) ≡ true
+unfolding beforeHold readerRules stateHolds
+holds-1 i e = two (i .sized) (listed (i .state)) (two (i .sized && listed (i .state)) _ e .0) .1
 
+-- rule 13 can't hit: where it would be asked, rule 1 held (02, request 11)
 pub never-13 : (i : Input) → Never13 i
 never-13 i e =
     let f = exactly i .fails 13 .0 (e, omega arith) in
-    true≢false (sym (guard-holds i (holds-1 i (f .1 1 (omega arith)))) ∙ fails-13 i (f .0))
+    true≢false (sym (guard-holds i (holds-1 i (f .1))) ∙ fails-13 i (f .0))
 
 -- a list of zeros is one
 zeros : (n : ℕ) (xs : List ℕ) → length xs ≡ n → ((i : ℕ) → i < n → getD xs i 0 ≡ 0) → xs ≡ replicate n 0

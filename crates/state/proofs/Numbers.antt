@@ -33,12 +33,14 @@ late i = cond (clockHolds i) (cond (guardHolds i) 0 13) 12
 
 pub number-is : (i : Input) → numberOf i ≡ cond (stateHolds i) (cond (eqb (broken (i .bytes)) 0) (late i) (broken (i .bytes))) 1
 unfolding numberOf readerRules firstBroken broken rules
-number-is i = ap (λ (n : ℕ). cond (stateHolds i) n 1) (parts-then (λ (i : Input). i .bytes) rules (rule 12 clockHolds ∷ rule 13 guardHolds ∷ []) i 2 (omega arith) (refl, (refl, (refl, (refl, (refl, (refl, (refl, (refl, (refl, (refl, tt)))))))))))
+number-is i =
+    let own = parts-then (λ (i : Input). i .bytes) rules (rule 12 clockHolds ∷ rule 13 guardHolds ∷ []) i refl in
+    ap (λ (n : ℕ). cond (stateHolds i) n 1) own
 
--- refused with n exactly when rule n fails and those before it hold
+-- refused with n exactly when rule n fails and those before it in the list hold
 pub exactly : (i : Input) → FirstBroken readerRules i (numberOf i)
 unfolding numberOf readerRules rules ofPart
-exactly i = first-broken i readerRules 1 (omega arith) (refl, (refl, (refl, (refl, (refl, (refl, (refl, (refl, (refl, (refl, (refl, (refl, (refl, tt)))))))))))))
+exactly i = first-broken readerRules i refl
 
 -- the decision on a record that no rule refuses, and on one that is refused
 pub accepted-is : (i : Input) → numberOf i ≡ 0

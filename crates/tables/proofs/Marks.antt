@@ -19,7 +19,10 @@ weight w u h = ap (λ (x : ℕ). x % 2 ^ w) (one-mul (2 ^ u)) ∙ mod-eq-of-lt (
 -- what the highest mark says of the number
 pub highest-high : (n k : ℕ) → highest n k ≡ true → n < 2 ^ (k + 1)
 unfolding highest
-highest-high n k e = let q = eqb-true (n / 2 ^ k) 1 e in rw (add-one k) (omega (arith, pow-suc 2 k, div-lt-iff-lt-mul {x = n} {y = 2} (pow-pos k) .0 (omega arith)))
+highest-high n k e =
+    let q = eqb-true (n / 2 ^ k) 1 e in
+    let below = div-lt-iff-lt-mul {x = n} {y = 2} (pow-pos k) .0 (omega arith) in
+    rw (add-one k) (omega (arith, pow-suc 2 k))
 
 ones-one : ones 1 ≡ 1
 unfolding ones onesIn
@@ -43,7 +46,9 @@ module _ (n u : ℕ) (h : n < 2 ^ u) where
 
   pub ones-marked : ones (marked n u) ≡ ones n + 1
   unfolding marked
-  ones-marked = ap ones (add-comm n (2 ^ u) ∙ ap (λ (x : ℕ). x + n) (sym (one-mul (2 ^ u)))) ∙ ones-cat u 1 n h ∙ ap (λ (x : ℕ). x + ones n) ones-one ∙ add-comm 1 (ones n)
+  ones-marked =
+      let shifted : n + 2 ^ u ≡ 1 * 2 ^ u + n = add-comm n (2 ^ u) ∙ ap (λ (x : ℕ). x + n) (sym (one-mul (2 ^ u))) in
+      ap ones shifted ∙ ones-cat u 1 n h ∙ ap (λ (x : ℕ). x + ones n) ones-one ∙ add-comm 1 (ones n)
 
 -- no mark from u on
 pub bits-above : (n i : ℕ) → n < 2 ^ i → bitSet n i ≡ false

@@ -16,7 +16,10 @@ kind-of-type-requires : tie.Need-kind-of-type-requires
 kind-of-type-requires c κs = search needs
 
 returns-2 : tie.Need-returns-2
-returns-2 c = kind-sized (now (c .before .before .before .before .args .packet)) (c .before .before .if1 .left) (c .kind-of-type .result) (c .kind-of-type .ensures)
+returns-2 c =
+    let t = c .before .before in
+    let k = c .kind-of-type in
+    kind-sized (now (t .before .before .args .packet)) (t .if1 .left) (k .result) (k .ensures)
 
 pub kind-of-spec : {M : Type 1} → statement M
 kind-of-spec = tie.close (tie.spec returns shared-slice-read-t kind-of-type-requires returns-2)

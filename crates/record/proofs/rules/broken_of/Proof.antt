@@ -64,27 +64,36 @@ first-broken-requires-9 c κs = search needs
 returns : tie.Need-returns
 unfolding rules firstBroken broken sizeHolds
 returns c =
-    let d = c .before .before .before .before .before .before .before .before .before .before .before .before .before .before .before .before .before .before .before in
+    let sync = c .before in
+    let spacecraft = sync .before .before in
+    let rate = spacecraft .before .before in
+    let spare = rate .before .before in
+    let day = spare .before .before in
+    let millisecond = day .before .before in
+    let status = millisecond .before .before in
+    let flags = status .before .before in
+    let typed = flags .before .before in
+    let entry = typed .before .before in
     rw (
       c .first-broken9 .ensures,
-      c .before .sync-holds .ensures,
-      c .before .before .first-broken8 .ensures,
-      c .before .before .before .spacecraft-holds .ensures,
-      c .before .before .before .before .first-broken7 .ensures,
-      c .before .before .before .before .before .rate-holds .ensures,
-      c .before .before .before .before .before .before .first-broken6 .ensures,
-      c .before .before .before .before .before .before .before .spare-holds .ensures,
-      c .before .before .before .before .before .before .before .before .first-broken5 .ensures,
-      c .before .before .before .before .before .before .before .before .before .day-holds .ensures,
-      c .before .before .before .before .before .before .before .before .before .before .first-broken4 .ensures,
-      c .before .before .before .before .before .before .before .before .before .before .before .millisecond-holds .ensures,
-      c .before .before .before .before .before .before .before .before .before .before .before .before .first-broken3 .ensures,
-      c .before .before .before .before .before .before .before .before .before .before .before .before .before .status-spare-holds .ensures,
-      c .before .before .before .before .before .before .before .before .before .before .before .before .before .before .first-broken2 .ensures,
-      c .before .before .before .before .before .before .before .before .before .before .before .before .before .before .before .flags-hold .ensures,
-      c .before .before .before .before .before .before .before .before .before .before .before .before .before .before .before .before .first-broken .ensures,
-      c .before .before .before .before .before .before .before .before .before .before .before .before .before .before .before .before .before .type-holds .ensures,
-      eq-eqb _ _ (d .pre),
+      sync .sync-holds .ensures,
+      sync .before .first-broken8 .ensures,
+      spacecraft .spacecraft-holds .ensures,
+      spacecraft .before .first-broken7 .ensures,
+      rate .rate-holds .ensures,
+      rate .before .first-broken6 .ensures,
+      spare .spare-holds .ensures,
+      spare .before .first-broken5 .ensures,
+      day .day-holds .ensures,
+      day .before .first-broken4 .ensures,
+      millisecond .millisecond-holds .ensures,
+      millisecond .before .first-broken3 .ensures,
+      status .status-spare-holds .ensures,
+      status .before .first-broken2 .ensures,
+      flags .flags-hold .ensures,
+      flags .before .first-broken .ensures,
+      typed .type-holds .ensures,
+      eq-eqb _ _ (entry .pre),
     )
 
 pub broken-of-spec : {M : Type 1} → statement M

@@ -11,10 +11,16 @@ word16-requires : tie.Need-word16-requires
 word16-requires c κs = search needs
 
 returns : tie.Need-returns
-returns c = let d = c .before .before .before in day-low (now (d .args .r)) (d .pre) (omega (arith, c .before .word16 .ensures))
+returns c =
+    let w = c .before in
+    let d = w .before .before in
+    day-low (now (d .args .r)) (d .pre) (omega (arith, w .word16 .ensures))
 
 returns-2 : tie.Need-returns-2
-returns-2 c = let d = c .before .before .before in rw (c .before .word16 .ensures) (day-test (now (d .args .r)) (d .pre) (omega (arith, c .before .word16 .ensures)))
+returns-2 c =
+    let w = c .before in
+    let d = w .before .before in
+    rw (w .word16 .ensures) (day-test (now (d .args .r)) (d .pre) (omega (arith, w .word16 .ensures)))
 
 pub day-holds-spec : {M : Type 1} → statement M
 day-holds-spec = tie.close (tie.spec word16-requires returns returns-2)

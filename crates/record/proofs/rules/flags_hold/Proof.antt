@@ -16,27 +16,44 @@ flag-holds-requires c κs = search needs
 
 returns : tie.Need-returns
 returns c =
-    let w = c .before .before .word16 in
-    let d = c .before .before .before .before in
-    rw (flags-test (now (d .args .r)) (d .pre) (w .result) (w .ensures), sym (c .before .flag-holds .ensures) ∙ not-true _ (c .if1 .taken))
+    let first = c .before in
+    let w = first .before .word16 in
+    let d = first .before .before .before in
+    rw (
+      flags-test (now (d .args .r)) (d .pre) (w .result) (w .ensures),
+      sym (first .flag-holds .ensures) ∙ not-true _ (c .if1 .taken),
+    )
 
 flag-holds-requires-2 : tie.Need-flag-holds-requires-2
 flag-holds-requires-2 c κs = search needs
 
 returns-2 : tie.Need-returns-2
 returns-2 c =
-    let w = c .before .before .before .before .word16 in
-    let d = c .before .before .before .before .before .before in
-    rw (flags-test (now (d .args .r)) (d .pre) (w .result) (w .ensures), sym (c .before .before .before .flag-holds .ensures) ∙ not-false _ (c .before .before .if1 .left), sym (c .before .flag-holds2 .ensures) ∙ not-true _ (c .if2 .taken))
+    let second = c .before in
+    let first = second .before .before in
+    let w = first .before .word16 in
+    let d = first .before .before .before in
+    rw (
+      flags-test (now (d .args .r)) (d .pre) (w .result) (w .ensures),
+      sym (first .flag-holds .ensures) ∙ not-false _ (second .before .if1 .left),
+      sym (second .flag-holds2 .ensures) ∙ not-true _ (c .if2 .taken),
+    )
 
 flag-holds-requires-3 : tie.Need-flag-holds-requires-3
 flag-holds-requires-3 c κs = search needs
 
 returns-3 : tie.Need-returns-3
 returns-3 c =
-    let w = c .before .before .before .before .before .word16 in
-    let d = c .before .before .before .before .before .before .before in
-    rw (flags-test (now (d .args .r)) (d .pre) (w .result) (w .ensures), sym (c .before .before .before .before .flag-holds .ensures) ∙ not-false _ (c .before .before .before .if1 .left), sym (c .before .before .flag-holds2 .ensures) ∙ not-false _ (c .before .if2 .left), ← c .flag-holds3 .ensures)
+    let second = c .before .before in
+    let first = second .before .before in
+    let w = first .before .word16 in
+    let d = first .before .before .before in
+    rw (
+      flags-test (now (d .args .r)) (d .pre) (w .result) (w .ensures),
+      sym (first .flag-holds .ensures) ∙ not-false _ (second .before .if1 .left),
+      sym (second .flag-holds2 .ensures) ∙ not-false _ (c .before .if2 .left),
+      ← c .flag-holds3 .ensures,
+    )
 
 pub flags-hold-spec : {M : Type 1} → statement M
 flags-hold-spec =

@@ -1,8 +1,7 @@
 -- `record::rules::type_holds` meets its contract.
 -- Assumes nothing.
-use mathlib.Core.Path.{sym, ap, _∙_}
 use denote.Ref.{now}
-use Rattle.record.proofs.Types.{defined, eleven}
+use Rattle.record.proofs.Types.{defined, eleven-told}
 use borrow.Author.Needs.{needs}
 use Rattle.record.proofs.rules.type_holds.Statement.{statement}
 use Rattle.record.proofs.rules.type_holds.Tie as tie
@@ -30,15 +29,24 @@ enum-told-3 c = search needs
 
 returns : tie.Need-returns
 unfolding defined
-returns c = let d = c .before .before .before .before .before in rw (eleven (now (d .args .r)) (d .pre)) (sym (ap defined (sym (c .before .before .kind-of .ensures .is) ∙ c .enum-told .given .1)))
+returns c =
+    let k = c .before .before in
+    let d = k .before .before .before in
+    eleven-told (now (d .args .r)) (d .pre) (k .kind-of .ensures .is) (c .enum-told .given .1)
 
 returns-2 : tie.Need-returns-2
 unfolding defined
-returns-2 c = let d = c .before .before .before .before .before in rw (eleven (now (d .args .r)) (d .pre)) (sym (ap defined (sym (c .before .before .kind-of .ensures .is) ∙ c .enum-told2 .given .1)))
+returns-2 c =
+    let k = c .before .before in
+    let d = k .before .before .before in
+    eleven-told (now (d .args .r)) (d .pre) (k .kind-of .ensures .is) (c .enum-told2 .given .1)
 
 returns-3 : tie.Need-returns-3
 unfolding defined
-returns-3 c = let d = c .before .before .before .before .before in rw (eleven (now (d .args .r)) (d .pre)) (sym (ap defined (sym (c .before .before .kind-of .ensures .is) ∙ c .enum-told3 .given .1)))
+returns-3 c =
+    let k = c .before .before in
+    let d = k .before .before .before in
+    eleven-told (now (d .args .r)) (d .pre) (k .kind-of .ensures .is) (c .enum-told3 .given .1)
 
 pub type-holds-spec : {M : Type 1} → statement M
 type-holds-spec =

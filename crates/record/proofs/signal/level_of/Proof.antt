@@ -17,7 +17,13 @@ returns c = record { is = rw (eq-eqb _ _ (c .if1 .taken)); kept = refl; reading 
 
 returns-2 : tie.Need-returns-2
 unfolding levelOf bitsOf
-returns-2 c = record { is = rw (ne-eqb _ _ (c .if1 .left)); kept = kept-bits (c .before .args .bits) (omega arith) (λ e. c .if1 .left e); reading = reads-finite (c .before .args .bits) (λ e. c .if1 .left e) }
+returns-2 c =
+    let bits = c .before .args .bits in
+    record {
+      is = rw (ne-eqb _ _ (c .if1 .left));
+      kept = kept-bits bits (omega arith) (λ e. c .if1 .left e);
+      reading = reads-finite bits (λ e. c .if1 .left e);
+    }
 
 pub level-of-spec : {M : Type 1} → statement M
 level-of-spec = tie.close (tie.spec float-from-bits-t6 returns returns-2)

@@ -13,16 +13,26 @@ enum-told : tie.Need-enum-told
 enum-told c = search needs
 
 record-of-requires : tie.Need-record-of-requires
-record-of-requires c κs = let r = now (c .before .before .before .before .args .r) in let k = c .before .before .check in sized r (passed r (k .result) (k .ensures .is) (c .enum-told .given .1))
+record-of-requires c κs =
+    let k = c .before .before in
+    let r = now (k .before .before .args .r) in
+    sized r (passed r (k .check .result) (k .check .ensures .is) (c .enum-told .given .1))
 
 enum-known-verdict : tie.Need-enum-known-verdict
 enum-known-verdict c = search needs
 
 returns : tie.Need-returns
-returns c = let k = c .before .before .before .check in with-fields (now (c .before .before .before .before .before .args .r)) (k .result) (k .ensures .is) (c .before .enum-told .given .1) (c .record-of .result) (c .record-of .ensures)
+returns c =
+    let k = c .before .before .before in
+    let r = now (k .before .before .args .r) in
+    let x = c .record-of in
+    with-fields r (k .check .result) (k .check .ensures .is) (c .before .enum-told .given .1) (x .result) (x .ensures)
 
 returns-2 : tie.Need-returns-2
-returns-2 c = let k = c .before .before .before .check in without-fields (now (c .before .before .before .before .before .args .r)) (k .result) (k .ensures .is) _ (c .before .verdict .given .1)
+returns-2 c =
+    let k = c .before .before .before in
+    let r = now (k .before .before .args .r) in
+    without-fields r (k .check .result) (k .check .ensures .is) _ (c .before .verdict .given .1)
 
 pub fields-spec : {M : Type 1} → statement M
 fields-spec =

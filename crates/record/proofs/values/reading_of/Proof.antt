@@ -22,9 +22,15 @@ level-of-requires-2 c κs = search needs
 
 returns : tie.Need-returns
 returns c =
-    let d = c .before .before .before .before .before in
+    let level = c .before .before in
+    let d = level .before .before .before in
     let w = word (now (d .args .r)) (d .pre) in
-    rw (c .before .before .level-of .ensures .is, c .level-of2 .ensures .is, c .before .before .before .word32 .ensures ∙ w 462 4 (omega arith), c .before .word322 .ensures ∙ w 466 4 (omega arith))
+    rw (
+      level .level-of .ensures .is,
+      c .level-of2 .ensures .is,
+      level .before .word32 .ensures ∙ w 462 4 (omega arith),
+      c .before .word322 .ensures ∙ w 466 4 (omega arith),
+    )
 
 pub reading-of-spec : {M : Type 1} → statement M
 reading-of-spec =

@@ -55,20 +55,22 @@ word16-requires-3 c κs = search needs
 returns : tie.Need-returns
 unfolding recordOf
 returns c =
-    let d = c .before .before .before .before .before .before .before .before .before .before in
+    let count = c .before .before .before in
+    let status = count .before .before .before .before in
+    let d = status .before .before .before in
     let r = now (d .args .r) in
     let w = word r (d .pre) in
     rw (
-      c .before .before .before .word24 .ensures ∙ w 6 3 (omega arith),
+      count .word24 .ensures ∙ w 6 3 (omega arith),
       c .before .before .word162 .ensures ∙ w 456 2 (omega arith),
       c .before .word32 .ensures ∙ w 458 4 (omega arith),
-      c .before .before .before .before .before .before .before .word16 .ensures ∙ w 470 2 (omega arith),
+      status .word16 .ensures ∙ w 470 2 (omega arith),
       first-is r,
       second-is r,
       third-is r,
-      c .before .before .before .before .before .kind-of .ensures .is,
+      count .before .before .kind-of .ensures .is,
       c .word163 .ensures ∙ packet-word r (d .pre) 1 2 (omega arith),
-      c .before .before .before .before .reading-of .ensures,
+      count .before .reading-of .ensures,
     )
 
 pub record-of-spec : {M : Type 1} → statement M
