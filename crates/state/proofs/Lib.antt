@@ -1,12 +1,7 @@
-pub mod Clauses
-pub mod Joining
-pub mod Parts
-pub mod Numbers
 pub mod Facts
+pub mod Numbers
 pub mod Ends
 pub mod Told
-pub mod KeepsFrames
-pub mod KeepsSlots
 pub mod Keeping
 pub mod Closing
 pub mod Single

@@ -1,28 +1,27 @@
 -- What the number of a decision says of it.
 -- Assumes nothing.
 use mathlib.Core.Path.{_≡_, refl, sym, ap, _∙_}
-use mathlib.Core.Bool.{Bool, true, false, not, cond, _&&_, true≢false, false≢true}
+use mathlib.Core.Bool.{Bool, true, false, not, cond, true≢false}
 use mathlib.Core.List.{List}
 use Prim.Native.Nat.{ℕ, _<_}
 use native.Mathlib.Omega.{arith}
-use lib.Dec.{eqb, leb}
+use lib.Dec.{eqb}
 use lib.ListN.{length}
-use borrow.Author.Tests.{eq-eqb, eqb-true, leb-true}
-use Rattle.record.specs.Layout.{size, packetBytes, magBytes, frameType}
-use Rattle.record.specs.Frame.{kindOf, kindOfType}
-use Rattle.record.specs.declared.frame.Kind.the-variants.{RealTime, Other, Undefined}
+use borrow.Author.Tests.{eq-eqb, eqb-true, eqb-false}
+use Rattle.record.specs.Layout.{size, packetBytes, frameType}
+use Rattle.record.specs.Frame.{isRealTime, carriesMag, carriesScience}
 use Rattle.record.specs.Rules.{broken}
 use Rattle.record.specs.Contents.{recordOf}
 use Rattle.record.proofs.Opened as opened
-use Rattle.mag.specs.Samples.{range}
-use Rattle.tables.proofs.Conds.{cond-of, two}
-use Rattle.state.specs.Accumulation.{joins, passes, extends, renews, stepAccumulation}
-use Rattle.state.specs.Major.{continues, stays, turns, stepMajor}
+use Rattle.record.proofs.Types as types
+use Rattle.tables.proofs.Conds.{two}
+use Rattle.accumulation.proofs.Closing as accumulation
+use Rattle.major.specs.Major.{slotOf, continues}
+use Rattle.major.proofs.Closing as major
 use Rattle.state.specs.List.{listed}
-use Rattle.state.specs.Deciding.{isRealTime, Input, dated, stateHolds, clockHolds, guardHolds, numberOf, refusal, acceptedAt, acceptance, decidedOf}
+use Rattle.state.specs.Deciding.{Input, fieldsOf, countAt, rangeOf, stateHolds, clockHolds, guardHolds, numberOf, refusal, acceptance, decidedOf}
 use Rattle.state.specs.declared.deciding.Decided.{Decided}
-use Rattle.state.specs.declared.major.MajorStep.{MajorStep}
-use Rattle.state.proofs.Numbers.{number-is, accepted-is}
+use Rattle.state.proofs.Numbers.{number-is, accepted-is, refused-is}
 
 -- a record that no rule refuses passes each
 pub record Passed (i : Input) : Type 0 where
@@ -59,56 +58,44 @@ passed-size i p = opened.sized (i .bytes) (p .record-passes)
 
 -- work is done for an accepted record only
 pub at-work : (i : Input) (f : Decided → Bool) → f (refusal (i .state) (numberOf i)) ≡ false → f (decidedOf i) ≡ true → numberOf i ≡ 0
-unfolding decidedOf
-at-work i f r e = go (eqb (numberOf i) 0) refl e
+at-work i f r e = go (eqb (numberOf i) 0) refl
   where
-    go : (t : Bool) → eqb (numberOf i) 0 ≡ t
-        → f (cond t (acceptance (i .state) (recordOf (i .bytes)) (dated i) (range (magBytes (packetBytes (i .bytes))))) (refusal (i .state) (numberOf i))) ≡ true
-        → numberOf i ≡ 0
-    go true t e = eqb-true (numberOf i) 0 t
-    go false t e = absurd (true≢false (sym e ∙ r))
+    go : (t : Bool) → eqb (numberOf i) 0 ≡ t → numberOf i ≡ 0
+    go true t = eqb-true (numberOf i) 0 t
+    go false t = absurd (true≢false (sym e ∙ ap f (refused-is i (eqb-false (numberOf i) 0 t)) ∙ r))
 
 -- the clock after it
-pub accepted-clock : (i : Input) → numberOf i ≡ 0 → decidedOf i .stepped .state .clock .last ≡ dated i
-unfolding acceptedAt
+pub accepted-clock : (i : Input) → numberOf i ≡ 0 → decidedOf i .stepped .state .clock .last ≡ countAt i
+unfolding acceptance
 accepted-clock i e = ap (λ (x : Decided). x .stepped .state .clock .last) (accepted-is i e)
 
--- a real-time frame's type is below 36
-pub real-type : (r : List ℕ) → isRealTime (recordOf r .kind) ≡ true → frameType (packetBytes r) < 36
-unfolding isRealTime recordOf kindOf kindOfType
-real-type r e = go (eqb (length (packetBytes r)) 168) (leb (frameType (packetBytes r)) 35) (leb 58 (frameType (packetBytes r)) && leb (frameType (packetBytes r)) 61) refl e
-  where
-    go : (a b c : Bool) → leb (frameType (packetBytes r)) 35 ≡ b
-        → isRealTime (cond a (cond b (RealTime (frameType (packetBytes r))) (cond c Undefined Other)) Undefined) ≡ true → frameType (packetBytes r) < 36
-    go true true c t e = omega (arith, leb-true (frameType (packetBytes r)) 35 t)
-    go true false true t e = absurd (false≢true e)
-    go true false false t e = absurd (false≢true e)
-    go false b c t e = absurd (false≢true e)
+-- the type of a frame with science is below 36
+pub science-type : (r : List ℕ) → carriesScience (recordOf r .kind) ≡ true → recordOf r .«frame_type» < 36
+unfolding recordOf
+science-type r e = types.real-type (packetBytes r) (sym (types.science-real _) ∙ e)
 
-same : (t a : Bool) → cond t a a ≡ a
-same true a = refl
-same false a = refl
-
--- both parts lay just a real-time frame's
 module _ (i : Input) where
-  pub samples-real : numberOf i ≡ 0 → decidedOf i .samples .lays ≡ isRealTime (recordOf (i .bytes) .kind)
-  unfolding acceptedAt stepMajor
-  samples-real e = ap (λ (x : Decided). x .samples .lays) (accepted-is i e) ∙ cond-of (λ (x : MajorStep). x .work .lays) (continues (i .state .major) (dated i)) _ _ ∙ same (continues (i .state .major) (dated i)) (isRealTime (recordOf (i .bytes) .kind))
+  -- each part lays just what carries it, the samples in the record's slot, cleared by the first of a major frame
+  pub samples-mag : numberOf i ≡ 0 → decidedOf i .works .samples .work .lays ≡ carriesMag (fieldsOf i .kind)
+  unfolding acceptance
+  samples-mag e = ap (λ (x : Decided). x .works .samples .work .lays) (accepted-is i e) ∙ major.lays-mag _ _ _ _ _
 
-  pub cells-real : numberOf i ≡ 0 → decidedOf i .cells .lays ≡ isRealTime (recordOf (i .bytes) .kind)
-  unfolding acceptedAt stepAccumulation
-  cells-real e = ap (λ (x : Decided). x .cells .lays) (accepted-is i e) ∙ go (isRealTime (recordOf (i .bytes) .kind)) (joins (i .state .accumulation) (recordOf (i .bytes) .«frame_type») (dated i))
-    where
-      go : (a b : Bool) → cond a (cond (a && b) (extends (i .state .accumulation) (recordOf (i .bytes) .«frame_type») (dated i)) (renews (i .state .accumulation) (recordOf (i .bytes) .«frame_type») (dated i))) (passes (i .state .accumulation)) .work .lays ≡ a
-      go true true = refl
-      go true false = refl
-      go false b = refl
+  pub samples-slot : numberOf i ≡ 0 → decidedOf i .works .samples .slot ≡ slotOf (countAt i)
+  unfolding acceptance
+  samples-slot e = ap (λ (x : Decided). x .works .samples .slot) (accepted-is i e) ∙ major.own-slot _ _ _ _ _
 
-  -- the samples are cleared by the first slot of a major frame
-  pub samples-first : numberOf i ≡ 0 → decidedOf i .samples .clears ≡ not (continues (i .state .major) (dated i))
-  unfolding acceptedAt stepMajor
-  samples-first e = ap (λ (x : Decided). x .samples .clears) (accepted-is i e) ∙ go (continues (i .state .major) (dated i))
+  pub samples-first : numberOf i ≡ 0 → decidedOf i .works .samples .work .clears ≡ not (continues (i .state .major) (countAt i))
+  unfolding acceptance
+  samples-first e = ap (λ (x : Decided). x .works .samples .work .clears) (accepted-is i e) ∙ major.first-clears _ _ _ _ _
+
+  pub cells-science : numberOf i ≡ 0 → decidedOf i .works .cells .lays ≡ carriesScience (fieldsOf i .kind)
+  unfolding acceptance
+  cells-science e = ap (λ (x : Decided). x .works .cells .lays) (accepted-is i e) ∙ accumulation.lays-science _ _ _ _
+
+  -- the slot is one of 16, whatever is decided
+  pub slot-small : decidedOf i .works .samples .slot < 16
+  slot-small = go (eqb (numberOf i) 0) refl
     where
-      go : (t : Bool) → cond t (stays (i .state .major) (dated i) (isRealTime (recordOf (i .bytes) .kind)) (range (magBytes (packetBytes (i .bytes)))) (recordOf (i .bytes) .subcom)) (turns (i .state .major) (dated i) (isRealTime (recordOf (i .bytes) .kind)) (range (magBytes (packetBytes (i .bytes)))) (recordOf (i .bytes) .subcom)) .work .clears ≡ not t
-      go true = refl
-      go false = refl
+      go : (t : Bool) → eqb (numberOf i) 0 ≡ t → decidedOf i .works .samples .slot < 16
+      go true t = omega (arith, samples-slot (eqb-true (numberOf i) 0 t))
+      go false t = omega (arith, ap (λ (x : Decided). x .works .samples .slot) (refused-is i (eqb-false (numberOf i) 0 t)))

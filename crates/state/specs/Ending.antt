@@ -1,32 +1,24 @@
 -- What finish decides (01, "Joining accumulations").
 -- Assumes nothing.
 use Prim.Native.Nat.{ℕ}
-use mathlib.Core.Bool.{Bool, false, cond, _&&_}
+use mathlib.Core.Bool.{Bool, cond, _&&_}
 use mathlib.Core.Path.{_≡_}
-use Rattle.state.specs.Accumulation.{noAccumulation, isOpen, unreported, reported}
-use Rattle.state.specs.Major.{noMajor, majorOpen, majorUnreported, majorReported}
+use Rattle.buffers.specs.Working.{closingWork}
+use Rattle.accumulation.specs.Accumulation.{noAccumulation, isOpen, reported}
+use Rattle.major.specs.Major.{noMajor, majorOpen, majorReported, slotWork}
 use Rattle.state.specs.List.{listed}
-use Rattle.state.specs.Deciding.{noWork}
+use Rattle.state.specs.Closed.{nothingClosed, noWorks}
 use Rattle.state.specs.declared.State.{State}
 use Rattle.state.specs.declared.ending.Ended.{Ended}
 use Rattle.state.specs.declared.ending.Ending.{Ending}
 use Rattle.state.specs.declared.ending.Ending.the-variants.{Refused, Done}
-use Rattle.state.specs.declared.work.Work.{Work}
 
 -- "Finish can give 1 only."
 abbrev pub endNumber : State → Bool → ℕ
 endNumber s sized = cond (sized && listed s) 0 1
 
 abbrev pub unended : State → Ended
-unended s = record {
-  finished = record { ending = Refused 1; state = s; major = majorUnreported; accumulation = unreported };
-  samples = noWork;
-  cells = noWork;
-}
-
--- "Closing copies the open buffer to the finished buffer ... and clears the open buffer to 0."
-abbrev pub closingWork : Bool → Work
-closingWork held = record { copies = held; clears = held; lays = false }
+unended s = record { finished = record { ending = Refused 1; state = s; closed = nothingClosed }; works = noWorks }
 
 -- "Closed by finish: whichever are open, likewise. Finish keeps the last accepted count, and nothing stays open."
 abbrev pub ending : State → Ended
@@ -34,11 +26,9 @@ ending s = record {
   finished = record {
     ending = Done;
     state = record { clock = s .clock; accumulation = noAccumulation; major = noMajor };
-    major = majorReported (s .major);
-    accumulation = reported (s .accumulation);
+    closed = record { major = majorReported (s .major); accumulation = reported (s .accumulation) };
   };
-  samples = closingWork (majorOpen (s .major));
-  cells = closingWork (isOpen (s .accumulation));
+  works = record { samples = slotWork (closingWork (majorOpen (s .major))) 0; cells = closingWork (isOpen (s .accumulation)) };
 }
 
 unfoldable pub endedOf : State → Bool → Ended

@@ -1,21 +1,13 @@
 -- What is said of the state list (01, "Numbers a refused record gets"): the fresh state passes it, and so does every state that is
 -- handed back from one that passes; rule 13 can't hit.
 -- Assumes nothing.
-use Prim.Native.Nat.{_^_, _<_}
 use mathlib.Core.Bool.{Bool, true}
 use mathlib.Core.Path.{_≡_}
-use lib.ListN.{length}
+use Rattle.major.specs.Shape.{Shaped}
 use Rattle.state.specs.List.{listed}
 use Rattle.state.specs.Deciding.{Input, numberOf, decidedOf}
 use Rattle.state.specs.Ending.{endedOf}
 use Rattle.state.specs.declared.State.{State}
-use Rattle.state.specs.declared.major.Major.{Major}
-
--- what the types of a major frame say: 16 ranges, 16 subcom words, MAG marks in 16 bits
-pub record Shaped (m : Major) : Type 0 where
-  pub ranges : length (m .ranges) ≡ 16
-  pub words : length (m .words) ≡ 16
-  pub mags : m .«mag_slots» < 2 ^ 16
 
 -- a state that passes the list, of the shape that its type gives it
 pub record Sound (s : State) : Type 0 where

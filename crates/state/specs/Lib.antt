@@ -1,7 +1,5 @@
-pub mod Clock
-pub mod Accumulation
-pub mod Major
 pub mod List
+pub mod Closed
 pub mod Deciding
 pub mod Ending
 pub mod Keeping

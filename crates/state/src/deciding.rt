@@ -7,27 +7,17 @@ ghost use lib.ListN.{length};
 ghost use Rattle.record.specs.Layout.{size, packetBytes, magBytes};
 ghost use Rattle.mag.specs.Samples.{range};
 ghost use Rattle.state.specs.List.{listed};
-ghost use Rattle.state.specs.Deciding.{isRealTime, noWork, refusal, acceptedAt, decidedAt, decidedBy, Ready, DecidedIs};
+ghost use Rattle.state.specs.Deciding.{refusal, acceptance, decidedAt, decidedBy, Ready, DecidedIs};
 use crate::State;
-use crate::accumulation::AccumulationReport;
-use crate::accumulation::Gap;
-use crate::accumulation::accumulation_report;
-use crate::accumulation::guard_passes;
-use crate::accumulation::joins_at;
-use crate::accumulation::no_accumulation;
-use crate::accumulation::step_accumulation;
-use crate::clock::Arrival;
-use crate::clock::Clock;
-use crate::clock::arrival_of;
-use crate::list::listed;
-use crate::major::MajorReport;
-use crate::major::major_report;
-use crate::major::no_major;
-use crate::major::step_major;
-use crate::work::Work;
+use crate::closed::Closed;
+use crate::closed::Works;
+use crate::closed::no_works;
+use crate::closed::nothing_closed;
+use crate::listed;
+use accumulation::Gap;
+use clock::Arrival;
 use mag::Unpacked;
 use record::Contents;
-use record::Kind;
 use record::Record;
 
 // An accepted record: its fields, among them its kind, and the gap decision.
@@ -45,25 +35,13 @@ pub enum Answer {
 pub struct Stepped {
     pub answer: Answer,
     pub state: State,
-    pub major: MajorReport,
-    pub accumulation: AccumulationReport,
+    pub closed: Closed,
 }
 
 // That, and what is then done to samples and cells.
 pub struct Decided {
     pub stepped: Stepped,
-    pub samples: Work,
-    pub cells: Work,
-}
-
-fn is_real_time(kind: Kind) -> bool
-    ensures { λ b. ⌜ b ≡ isRealTime kind ⌝ }
-{
-    match kind {
-        Kind::RealTime(_) => true,
-        Kind::Other => false,
-        Kind::Undefined => false,
-    }
+    pub works: Works,
 }
 
 // The range of a record's MAG bytes.
@@ -71,21 +49,10 @@ fn range_in(r: &[u8]) -> u8
     requires { ⌜ length (now r) ≡ size ⌝ }
     ensures { λ n. ⌜ n ≡ range (magBytes (packetBytes (now (r .entry)))) ⌝ }
 {
-    let packet = &r[Record::PACKET_AT..Record::PACKET_END];
-    let range = mag::range_of(&packet[Record::MAG_AT..Record::SCIENCE_AT]);
+    let range = mag::range_of(record::mag_bytes(record::packet_in(r)));
     match range {
         Unpacked::Range(n) => n,
         Unpacked::NoSuchPlace => 0,
-    }
-}
-
-pub(crate) fn no_work() -> Work
-    ensures { λ w. ⌜ w ≡ noWork ⌝ }
-{
-    Work {
-        copies: false,
-        clears: false,
-        lays: false,
     }
 }
 
@@ -97,23 +64,22 @@ fn refused(state: State, n: u8) -> Decided
         stepped: Stepped {
             answer: Answer::Refused(n),
             state: state,
-            major: major_report(no_major()),
-            accumulation: accumulation_report(no_accumulation()),
+            closed: nothing_closed(),
         },
-        samples: no_work(),
-        cells: no_work(),
+        works: no_works(),
     }
 }
 
 // A record that no rule refuses, at count d: one part for the clock, one for the accumulation, one for the major frame.
-fn accept(state: State, f: Record, real: bool, joining: bool, d: u64, range: u8) -> Decided
+fn accept(state: State, f: Record, d: u64, range: u8) -> Decided
     requires { ⌜ Ready state f d ⌝ }
-    ensures { λ x. ⌜ x ≡ acceptedAt state f real joining d range ⌝ }
+    ensures { λ x. ⌜ x ≡ acceptance state f d range ⌝ }
 {
-    let accumulation = state.accumulation;
-    let major = state.major;
-    let cells = step_accumulation(accumulation, real, joining, f.frame_type, d);
-    let samples = step_major(major, d, real, range, f.subcom);
+    let kind = f.kind;
+    let science = record::carries_science(kind);
+    let mag = record::carries_mag(kind);
+    let cells = accumulation::step(state.accumulation, science, f.frame_type, d);
+    let samples = major::step(state.major, d, mag, range, f.subcom);
     let gap = cells.gap;
     let taken = Taken {
         fields: f,
@@ -123,7 +89,7 @@ fn accept(state: State, f: Record, real: bool, joining: bool, d: u64, range: u8)
     let accumulation = cells.next;
     let major = samples.next;
     let next = State {
-        clock: Clock { any: true, last: d },
+        clock: clock::accepted(d),
         accumulation: accumulation,
         major: major,
     };
@@ -135,11 +101,15 @@ fn accept(state: State, f: Record, real: bool, joining: bool, d: u64, range: u8)
         stepped: Stepped {
             answer: answer,
             state: next,
-            major: major,
-            accumulation: accumulation,
+            closed: Closed {
+                major: major,
+                accumulation: accumulation,
+            },
         },
-        samples: samples,
-        cells: cells,
+        works: Works {
+            samples: samples,
+            cells: cells,
+        },
     }
 }
 
@@ -149,12 +119,11 @@ fn decide_at(state: State, f: Record, d: u64, range: u8) -> Decided
     ensures { λ x. ⌜ x ≡ decidedAt state f d range ⌝ }
 {
     let kind = f.kind;
-    let real = is_real_time(kind);
-    let joining = joins_at(state.accumulation, real, f.frame_type, d);
-    if !guard_passes(state.accumulation, joining, f.frame_type) {
+    let science = record::carries_science(kind);
+    if !accumulation::guard_passes(state.accumulation, science, f.frame_type, d) {
         return refused(state, 13);
     }
-    accept(state, f, real, joining, d, range)
+    accept(state, f, d, range)
 }
 
 // A record that passes rules 1 to 11: rule 12.
@@ -162,7 +131,7 @@ fn decide_by(state: State, f: Record, range: u8) -> Decided
     requires { ⌜ (listed state ≡ true) × (f .«frame_type» < 64) ⌝ }
     ensures { λ x. ⌜ x ≡ decidedBy state f range ⌝ }
 {
-    let arrival = arrival_of(state.clock, f.count);
+    let arrival = clock::arrival_of(state.clock, f.count);
     match arrival {
         Arrival::At(d) => decide_at(state, f, d, range),
         Arrival::NotLater => refused(state, 12),

@@ -1,16 +1,13 @@
 // What finish decides (01, "Joining accumulations"): both close that are open, the last accepted count is kept.
 ghost use mathlib.Core.Path.{_≡_};
-ghost use Rattle.state.specs.Ending.{unended, closingWork, EndedIs};
+ghost use Rattle.state.specs.Ending.{unended, EndedIs};
 use crate::State;
-use crate::accumulation::AccumulationReport;
-use crate::accumulation::accumulation_report;
-use crate::accumulation::no_accumulation;
-use crate::deciding::no_work;
-use crate::list::listed;
-use crate::major::MajorReport;
-use crate::major::major_report;
-use crate::major::no_major;
-use crate::work::Work;
+use crate::closed::Closed;
+use crate::closed::Works;
+use crate::closed::no_works;
+use crate::closed::nothing_closed;
+use crate::listed;
+use buffers::closing_work;
 
 pub enum Ending {
     Refused(u8),
@@ -21,15 +18,13 @@ pub enum Ending {
 pub struct Finished {
     pub ending: Ending,
     pub state: State,
-    pub major: MajorReport,
-    pub accumulation: AccumulationReport,
+    pub closed: Closed,
 }
 
 // That, and what is then done to samples and cells.
 pub struct Ended {
     pub finished: Finished,
-    pub samples: Work,
-    pub cells: Work,
+    pub works: Works,
 }
 
 fn not_ended(state: State) -> Ended
@@ -39,22 +34,9 @@ fn not_ended(state: State) -> Ended
         finished: Finished {
             ending: Ending::Refused(1),
             state: state,
-            major: major_report(no_major()),
-            accumulation: accumulation_report(no_accumulation()),
+            closed: nothing_closed(),
         },
-        samples: no_work(),
-        cells: no_work(),
-    }
-}
-
-// The open buffer is copied and cleared where something is held.
-fn closing(held: bool) -> Work
-    ensures { λ w. ⌜ w ≡ closingWork held ⌝ }
-{
-    Work {
-        copies: held,
-        clears: held,
-        lays: false,
+        works: no_works(),
     }
 }
 
@@ -71,19 +53,22 @@ pub fn end(state: State, sized: bool) -> Ended
     let a = state.accumulation;
     let m = state.major;
     let clock = state.clock;
-    let next = State {
-        clock: clock,
-        accumulation: no_accumulation(),
-        major: no_major(),
-    };
     Ended {
         finished: Finished {
             ending: Ending::Done,
-            state: next,
-            major: major_report(m),
-            accumulation: accumulation_report(a),
+            state: State {
+                clock: clock,
+                accumulation: accumulation::no_accumulation(),
+                major: major::no_major(),
+            },
+            closed: Closed {
+                major: major::report(m),
+                accumulation: accumulation::report(a),
+            },
         },
-        samples: closing(m.slots != 0),
-        cells: closing(a.held != 0),
+        works: Works {
+            samples: major::no_slot_work(closing_work(m.slots != 0)),
+            cells: closing_work(a.held != 0),
+        },
     }
 }

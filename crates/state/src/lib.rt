@@ -1,20 +1,15 @@
 // The reader's state by value, the list of what it must be, and what a record decides: no buffer is touched here (01, "Joining
 // accumulations", "Numbers a refused record gets").
 ghost use mathlib.Core.Path.{_≡_};
-ghost use Rattle.state.specs.List.{fresh};
+ghost use Rattle.state.specs.List.{fresh, listed};
 
-mod accumulation;
-mod clock;
+mod closed;
 mod deciding;
 mod ending;
-mod list;
-mod major;
-mod work;
 
-pub use accumulation::Accumulation;
-pub use accumulation::AccumulationReport;
-pub use accumulation::Gap;
-pub use clock::Clock;
+pub use closed::Closed;
+pub use closed::Works;
+pub use closed::nothing_closed;
 pub use deciding::Answer;
 pub use deciding::Decided;
 pub use deciding::Stepped;
@@ -24,11 +19,9 @@ pub use ending::Ended;
 pub use ending::Ending;
 pub use ending::Finished;
 pub use ending::end;
-pub use list::listed;
-pub use major::Major;
-pub use major::MajorReport;
-pub use major::no_major;
-pub use work::Work;
+use accumulation::Accumulation;
+use clock::Clock;
+use major::Major;
 
 // Clock, open accumulation, open major frame. Fresh is all 0.
 pub struct State {
@@ -41,11 +34,24 @@ pub fn fresh() -> State
     ensures { λ s. ⌜ s ≡ fresh ⌝ }
 {
     State {
-        clock: Clock {
-            any: false,
-            last: 0,
-        },
+        clock: clock::unset(),
         accumulation: accumulation::no_accumulation(),
-        major: no_major(),
+        major: major::no_major(),
     }
+}
+
+// Does the state pass the list? Each part tests its own.
+pub fn listed(state: State) -> bool
+    ensures { λ b. ⌜ b ≡ listed state ⌝ }
+{
+    let clock = state.clock;
+    let a = state.accumulation;
+    let m = state.major;
+    if !clock::is_listed(clock) {
+        return false;
+    }
+    if !accumulation::is_listed(clock, a) {
+        return false;
+    }
+    major::is_listed(clock, m)
 }

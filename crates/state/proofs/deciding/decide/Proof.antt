@@ -1,15 +1,14 @@
 -- `state::deciding::decide` meets its contract.
 -- Assumes nothing.
-use borrow.Author.Tests.{not-false}
-use Rattle.state.proofs.Numbers.{unlisted, record-refused, record-decided, type-below}
-use denote.Ref.{now}
 use mathlib.Core.Path.{sym, ap₂, _∙_}
+use borrow.Author.Tests.{not-false}
+use denote.Ref.{now}
+use Rattle.tables.proofs.Conds.{held, fails}
 use Rattle.record.proofs.Opened.{sized}
 use Rattle.record.proofs.Told.{fields-told, number-told}
 use Rattle.state.specs.List.{listed}
-use Rattle.state.proofs.Clauses.{held, fails, above-0}
-use Rattle.state.proofs.Joining.{other-apart}
 use Rattle.state.specs.Deciding.{decidedBy}
+use Rattle.state.proofs.Numbers.{unlisted, record-refused, record-decided, type-below, above-0, off}
 use borrow.Author.Needs.{needs}
 use Rattle.state.proofs.deciding.decide.Statement.{statement}
 use Rattle.state.proofs.deciding.decide.Tie as tie
@@ -18,7 +17,9 @@ refused-requires : tie.Need-refused-requires
 refused-requires c κs = search needs
 
 returns : tie.Need-returns
-returns c = let a = c .before .before .before .args in unlisted (a .state) (a .sized) (now (a .r)) _ (sym (other-apart (a .sized) (listed (a .state)) (c .before .if1 .taken))) (c .refused .ensures)
+returns c =
+    let a = c .before .before .before .args in
+    unlisted (a .state) (a .sized) (now (a .r)) _ (off (a .sized) (listed (a .state)) (c .before .if1 .taken)) (c .refused .ensures)
 
 listed-requires : tie.Need-listed-requires
 listed-requires c κs = search needs
@@ -27,7 +28,11 @@ refused-requires-2 : tie.Need-refused-requires-2
 refused-requires-2 c κs = search needs
 
 returns-2 : tie.Need-returns-2
-returns-2 c = let a = c .before .before .before .before .before .args in unlisted (a .state) (a .sized) (now (a .r)) _ (rw (not-false (a .sized) (c .before .before .before .if1 .left), fails (c .before .before .listed .ensures) (c .before .if2 .taken))) (c .refused2 .ensures)
+returns-2 c =
+    let l = c .before .before in
+    let a = l .before .before .before .args in
+    unlisted (a .state) (a .sized) (now (a .r)) _
+    (rw (not-false (a .sized) (l .before .if1 .left), fails (l .listed .ensures) (c .before .if2 .taken))) (c .refused2 .ensures)
 
 fields-requires : tie.Need-fields-requires
 fields-requires c κs = search needs
@@ -36,10 +41,18 @@ enum-known-contents : tie.Need-enum-known-contents
 enum-known-contents c = search needs
 
 range-in-requires : tie.Need-range-in-requires
-range-in-requires c κs = let r = now (c .before .before .before .before .before .before .before .before .args .r) in let k = c .before .before .before .fields in sized r (fields-told r (k .result) (k .ensures) _ (c .before .contents .given .1) .0)
+range-in-requires c κs =
+    let f = c .before .before .before in
+    let r = now (f .before .before .before .before .before .args .r) in
+    sized r (fields-told r (f .fields .result) (f .fields .ensures) _ (c .before .contents .given .1) .0)
 
 decide-by-requires : tie.Need-decide-by-requires
-decide-by-requires c κs = let r = now (c .before .before .before .before .before .before .before .before .before .args .r) in let k = c .before .before .before .before .fields in let t = fields-told r (k .result) (k .ensures) _ (c .before .before .contents .given .1) in (held (c .before .before .before .before .before .before .listed .ensures) (c .before .before .before .before .before .if2 .left), rw (t .1) (type-below r))
+decide-by-requires c κs =
+    let f = c .before .before .before .before in
+    let l = f .before .before in
+    let r = now (l .before .before .before .args .r) in
+    let t = fields-told r (f .fields .result) (f .fields .ensures) _ (c .before .before .contents .given .1) in
+    (held (l .listed .ensures) (f .before .if2 .left), rw (t .1) (type-below r))
 
 enum-known-contents-2 : tie.Need-enum-known-contents-2
 enum-known-contents-2 c = search needs
@@ -49,20 +62,23 @@ refused-requires-3 c κs = search needs
 
 returns-3 : tie.Need-returns-3
 returns-3 c =
-    let a = c .before .before .before .before .before .before .before .before .before .before .args in
+    let f = c .before .before .before .before .before in
+    let l = f .before .before in
+    let a = l .before .before .before .args in
     let r = now (a .r) in
-    let k = c .before .before .before .before .before .fields in
-    let t = fields-told r (k .result) (k .ensures) _ (c .before .before .before .contents .given .1) in
-    record-decided (a .state) (a .sized) r _ (rw (not-false (a .sized) (c .before .before .before .before .before .before .before .before .if1 .left), held (c .before .before .before .before .before .before .before .listed .ensures) (c .before .before .before .before .before .before .if2 .left))) (t .0)
-    (c .decide-by .ensures ∙ ap₂ (decidedBy (a .state)) (t .1) (c .before .range-in .ensures))
+    let t = fields-told r (f .fields .result) (f .fields .ensures) _ (c .before .before .before .contents .given .1) in
+    record-decided (a .state) (a .sized) r _ (rw (not-false (a .sized) (l .before .if1 .left), held (l .listed .ensures) (f .before .if2 .left)))
+    (t .0) (c .decide-by .ensures ∙ ap₂ (decidedBy (a .state)) (t .1) (c .before .range-in .ensures))
 
 returns-4 : tie.Need-returns-4
 returns-4 c =
-    let a = c .before .before .before .before .before .before .before .before .before .args in
+    let f = c .before .before .before .before in
+    let l = f .before .before in
+    let a = l .before .before .before .args in
     let r = now (a .r) in
-    let k = c .before .before .before .before .fields in
-    let t = number-told r (k .result) (k .ensures) _ (c .before .before .contents2 .given .1) in
-    record-refused (a .state) (a .sized) r _ (rw (not-false (a .sized) (c .before .before .before .before .before .before .before .if1 .left), held (c .before .before .before .before .before .before .listed .ensures) (c .before .before .before .before .before .if2 .left))) _ (sym (t .0)) (above-0 (t .1)) (c .refused3 .ensures)
+    let t = number-told r (f .fields .result) (f .fields .ensures) _ (c .before .before .contents2 .given .1) in
+    record-refused (a .state) (a .sized) r _ (rw (not-false (a .sized) (l .before .if1 .left), held (l .listed .ensures) (f .before .if2 .left)))
+    _ (sym (t .0)) (above-0 (t .1)) (c .refused3 .ensures)
 
 pub decide-spec : {M : Type 1} → statement M
 decide-spec =

@@ -1,6 +1,6 @@
 -- `state::deciding::decide_by` meets its contract.
 -- Assumes nothing.
-use Rattle.state.proofs.Numbers.{arrives, arrives-not}
+use Rattle.clock.proofs.Laws.{arrives, arrives-not}
 use Rattle.state.proofs.Facts.{ready}
 use mathlib.Core.Path.{sym, ap, _∙_}
 use Prim.Native.Nat.{ℕ}
@@ -16,7 +16,11 @@ enum-known-arrival : tie.Need-enum-known-arrival
 enum-known-arrival c = search needs
 
 decide-at-requires : tie.Need-decide-at-requires
-decide-at-requires c κs = let a = c .before .before .before .before .args in let t = arrives (a .state .clock) (a .f .count) _ (sym (c .before .before .before .arrival-of .ensures) ∙ c .before .arrival .given .1) in ready (a .state) (a .f) _ (c .before .before .before .before .pre .0) (rw (t .1) (t .0)) (c .before .before .before .before .pre .1)
+decide-at-requires c κs =
+    let k = c .before .before .before in
+    let h = k .before in
+    let t = arrives (h .args .state .clock) (h .args .f) _ (sym (k .arrival-of .ensures) ∙ c .before .arrival .given .1) in
+    ready (h .args .state) (h .args .f) _ (h .pre .0) (t .0) (t .1) (h .pre .1)
 
 enum-told : tie.Need-enum-told
 enum-told c = search needs
@@ -26,11 +30,18 @@ refused-requires c κs = search needs
 
 returns : tie.Need-returns
 unfolding decidedBy
-returns c = let a = c .before .before .before .before .before .args in let t = arrives (a .state .clock) (a .f .count) _ (sym (c .before .before .before .before .arrival-of .ensures) ∙ c .before .before .arrival .given .1) in rw (t .0) (c .decide-at .ensures ∙ ap (λ (d : ℕ). decidedAt (a .state) (a .f) d (a .range)) (t .1))
+returns c =
+    let k = c .before .before .before .before in
+    let a = k .before .args in
+    let t = arrives (a .state .clock) (a .f) _ (sym (k .arrival-of .ensures) ∙ c .before .before .arrival .given .1) in
+    rw (t .0) (c .decide-at .ensures ∙ ap (λ (d : ℕ). decidedAt (a .state) (a .f) d (a .range)) (t .1))
 
 returns-2 : tie.Need-returns-2
 unfolding decidedBy
-returns-2 c = let a = c .before .before .before .before .args in rw (arrives-not (a .state .clock) (a .f .count) (sym (c .before .before .before .arrival-of .ensures) ∙ c .before .enum-told .given .1)) (c .refused .ensures)
+returns-2 c =
+    let k = c .before .before .before in
+    let a = k .before .args in
+    rw (arrives-not (a .state .clock) (a .f) (sym (k .arrival-of .ensures) ∙ c .before .enum-told .given .1)) (c .refused .ensures)
 
 pub decide-by-spec : {M : Type 1} → statement M
 decide-by-spec =

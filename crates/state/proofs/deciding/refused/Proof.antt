@@ -3,36 +3,17 @@
 use borrow.Author.Needs.{needs}
 use Rattle.state.proofs.deciding.refused.Statement.{statement}
 use Rattle.state.proofs.deciding.refused.Tie as tie
+use Rattle.state.proofs.closed.no_works.Reads as no-works-reads
+use Rattle.state.proofs.closed.nothing_closed.Reads as nothing-closed-reads
 
-no-major-requires : tie.Need-no-major-requires
-no-major-requires c κs = search needs
+nothing-closed-requires : tie.Need-nothing-closed-requires
+nothing-closed-requires c κs = search needs
 
-major-report-requires : tie.Need-major-report-requires
-major-report-requires c κs = search needs
-
-no-accumulation-requires : tie.Need-no-accumulation-requires
-no-accumulation-requires c κs = search needs
-
-accumulation-report-requires : tie.Need-accumulation-report-requires
-accumulation-report-requires c κs = search needs
-
-no-work-requires : tie.Need-no-work-requires
-no-work-requires c κs = search needs
-
-no-work-requires-2 : tie.Need-no-work-requires-2
-no-work-requires-2 c κs = search needs
+no-works-requires : tie.Need-no-works-requires
+no-works-requires c κs = search needs
 
 returns : tie.Need-returns
-returns c = rw (c .no-work2 .ensures, c .before .no-work .ensures, c .before .before .accumulation-report .ensures, c .before .before .before .no-accumulation .ensures, c .before .before .before .before .major-report .ensures, c .before .before .before .before .before .no-major .ensures)
+returns c = rw (c .no-works .ensures, c .before .nothing-closed .ensures)
 
 pub refused-spec : {M : Type 1} → statement M
-refused-spec =
-    tie.close
-    (tie.spec
-    no-major-requires
-    major-report-requires
-    no-accumulation-requires
-    accumulation-report-requires
-    no-work-requires
-    no-work-requires-2
-    returns)
+refused-spec = tie.close (tie.spec nothing-closed-requires no-works-requires returns)

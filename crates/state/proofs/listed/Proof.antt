@@ -1,0 +1,47 @@
+-- `state::listed` meets its contract.
+-- Assumes nothing.
+use Rattle.tables.proofs.Conds.{held, fails}
+use Rattle.state.specs.List.{listed}
+use borrow.Author.Needs.{needs}
+use Rattle.state.proofs.listed.Statement.{statement}
+use Rattle.state.proofs.listed.Tie as tie
+use Rattle.accumulation.proofs.is_listed.Reads as list-is-listed-reads
+use Rattle.clock.proofs.is_listed.Reads as is-listed-reads
+use Rattle.major.proofs.is_listed.Reads as list-is-listed-reads′
+
+is-listed-requires : tie.Need-is-listed-requires
+is-listed-requires c κs = search needs
+
+returns : tie.Need-returns
+unfolding listed
+returns c = rw (fails (c .before .is-listed .ensures) (c .if1 .taken))
+
+is-listed-requires-2 : tie.Need-is-listed-requires-2
+is-listed-requires-2 c κs = search needs
+
+returns-2 : tie.Need-returns-2
+unfolding listed
+returns-2 c =
+    let k = c .before .before in
+    rw (held (k .before .is-listed .ensures) (k .if1 .left), fails (c .before .is-listed2 .ensures) (c .if2 .taken))
+
+is-listed-requires-3 : tie.Need-is-listed-requires-3
+is-listed-requires-3 c κs = search needs
+
+returns-3 : tie.Need-returns-3
+unfolding listed
+returns-3 c =
+    let m = c .before in
+    let k = m .before .before in
+    rw (held (k .before .is-listed .ensures) (k .if1 .left), held (m .before .is-listed2 .ensures) (m .if2 .left)) (c .is-listed3 .ensures)
+
+pub listed-spec : {M : Type 1} → statement M
+listed-spec =
+    tie.close
+    (tie.spec
+    is-listed-requires
+    returns
+    is-listed-requires-2
+    returns-2
+    is-listed-requires-3
+    returns-3)
