@@ -6,8 +6,8 @@ use mathlib.Core.List.{List}
 use Prim.Native.Nat.{ℕ, _<_}
 use native.Mathlib.Omega.{arith}
 use lib.Dec.{eqb, ltb}
-use borrow.Author.Tests.{ltb-true, lt-ltb, ne-eqb}
-use Rattle.tables.proofs.Conds.{two}
+use borrow.Author.Tests.{eqb-true, ltb-true, lt-ltb, ne-eqb}
+use Rattle.tables.proofs.Conds.{two, second}
 use Rattle.bits.specs.Numbers.{most}
 use Rattle.bits.proofs.Numbers as bits
 use Rattle.record.specs.Contents.{recordOf}
@@ -76,3 +76,11 @@ has-begun c n e h = go (c .any) refl e
     go : (t : Bool) → c .any ≡ t → (t || eqb n 0) ≡ true → c .any ≡ true
     go true t _ = t
     go false t e = absurd (false≢true (sym (ne-eqb n 0 h) ∙ e))
+
+-- and where nothing was accepted it is 0
+pub not-begun : (c : Clock) (n : ℕ) → begun c n ≡ true → c .any ≡ false → n ≡ 0
+not-begun c n e a = eqb-true n 0 (second (c .any) (eqb n 0) a e)
+
+pub last-nought : (c : Clock) → clockListed c ≡ true → c .any ≡ false → c .last ≡ 0
+unfolding clockListed
+last-nought c e a = not-begun c (c .last) (two (ltb (c .last) counts) (begun c (c .last)) e .1) a

@@ -17,7 +17,7 @@ use Rattle.record.specs.Rules.{rules}
 use Rattle.tables.proofs.Marks.{bits-above, below}
 use Rattle.clock.specs.Clock.{unset, accepted, isLater, clockListed}
 use Rattle.clock.specs.declared.Clock.{Clock}
-use Rattle.clock.proofs.Laws.{dated-above, dated-below, accepted-listed, unset-listed}
+use Rattle.clock.proofs.Laws.{dated-above, dated-below, accepted-listed, unset-listed, not-begun, last-nought}
 use Rattle.accumulation.specs.Accumulation.{noAccumulation}
 use Rattle.accumulation.proofs.Facts.{frames, guard-holds, none-zero}
 use Rattle.accumulation.proofs.Keeping as accumulation
@@ -137,19 +137,19 @@ all-zero any last first held type count others number slots mags ranges words a 
 
 -- "Until something is accepted, all is 0."
 pub unstarted : (s : State) → Sound s → s .clock .any ≡ false → s ≡ fresh
-unfolding clockListed noSlot made
+unfolding noSlot made
 unstarted s sound a =
     let c = s .clock in
     let m = s .major in
     let f = facts s (sound .passes) in
     let fa = frames c (s .accumulation) (f .accumulation) in
     let fm = slots-of c m (f .major) in
-    let l = eqb-true _ _ (second (c .any) _ a (two _ _ (f .clock) .1)) in
-    let held = eqb-true _ _ (second (c .any) _ a (fa .start)) in
-    let slots = eqb-true _ _ (second (c .any) _ a (fm .start)) in
+    let l = last-nought c (f .clock) a in
+    let held = not-begun c (s .accumulation .held) (fa .start) a in
+    let slots = not-begun c (m .slots) (fm .start) a in
     let z = none-zero (s .accumulation) (fa .shut) held in
     let n : not (eqb (m .slots) 0) ≡ false = rw (eq-eqb (m .slots) 0 slots) in
-    let number = eqb-true _ _ (second (not (eqb (m .slots) 0)) _ n (fm .empty)) in
+    let number : m .number ≡ 0 = eqb-true _ _ (second (not (eqb (m .slots) 0)) _ n (fm .empty)) in
     let free : (i : ℕ) → bitSet (m .slots) i ≡ false = λ i. rw slots (bits-above 0 i (pow-pos i)) in
     let holds : (i : ℕ) → i < 16 → slotHolds m i ≡ true = λ i q. slot-clauses m i (fm .slots) q in
     let unmarked : (i : ℕ) → i < 16 → bitSet (m .«mag_slots») i ≡ false = λ i q. mag-among m i (holds i q) (free i) in
