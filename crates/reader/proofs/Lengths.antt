@@ -9,9 +9,8 @@ use borrow.Author.Tests.{eqb-true, eq-eqb}
 use Rattle.tables.proofs.Conds.{two}
 use Rattle.buffers.specs.Copying.{copied}
 use Rattle.cells.specs.Laying.{cellsSize}
-use Rattle.state.specs.Major.{frameSamples}
-use Rattle.reader.specs.Buffers.{copiedBy, clearedBy}
-use Rattle.reader.specs.Steps.{sizedBy}
+use Rattle.major.specs.Major.{frameSamples}
+use Rattle.reader.specs.Buffers.{sizedBy, copiedBy, clearedBy}
 
 -- a copy between two of one size
 pub is-copied {ℓ} : {A : Type ℓ} (t : Bool) (s d e : List A) → t ≡ true → length s ≡ length d → e ≡ copied s d → e ≡ copiedBy t s d
@@ -33,4 +32,9 @@ sizes oc fc os fs e =
     let a = two _ _ e in
     let b = two _ _ (a .1) in
     let c = two _ _ (b .1) in
-    record { cells = eqb-true _ _ (a .0); finished-cells = eqb-true _ _ (b .0); samples = eqb-true _ _ (c .0); finished-samples = eqb-true _ _ (c .1) }
+    record {
+      cells = eqb-true _ _ (a .0);
+      finished-cells = eqb-true _ _ (b .0);
+      samples = eqb-true _ _ (c .0);
+      finished-samples = eqb-true _ _ (c .1);
+    }

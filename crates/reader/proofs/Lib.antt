@@ -1,5 +1,4 @@
 pub mod Lengths
 pub mod Laid
 pub mod Outcomes
-pub mod Laws
 pub mod Single

@@ -1,128 +1,148 @@
 -- What the code of step and finish comes to is what their definitions say.
 -- Assumes nothing.
-use mathlib.Core.Path.{_≡_, refl, sym, ap, _∙_}
+use mathlib.Core.Path.{_≡_, refl, sym, ap, subst, _∙_}
 use mathlib.Core.Bool.{Bool, true, false, cond, _&&_, true≢false}
-use mathlib.Core.List.{List}
-use Prim.Native.Nat.{ℕ, _%_, _<_}
+use mathlib.Core.List.{List, []}
+use Prim.Native.Nat.{ℕ, _<_}
 use native.Mathlib.Omega.{arith}
 use lib.Dec.{eqb}
-use lib.IntN.{ℤ, pos}
-use lib.ListN.{length}
-use borrow.Author.Tests.{eqb-true, eqb-false}
+use lib.IntN.{ℤ}
+use lib.ListN.{length, length-take, length-drop}
+use borrow.Author.Tests.{eq-eqb, eqb-true, eqb-false}
 use Rattle.tables.proofs.Conds.{two}
-use Rattle.state.proofs.Numbers.{refused-is}
-use Rattle.record.specs.Layout.{size, packetBytes, frameCode}
+use Rattle.record.specs.Layout.{size, packetSize, packetBytes, frameCode}
+use Rattle.record.specs.Parts.{PacketAtIs}
+use Rattle.record.specs.Contents.{recordOf}
 use Rattle.carriage.specs.Carriage.{types}
-use Rattle.cells.specs.Laying.{cellsSize, frameType}
+use Rattle.cells.specs.Laying.{frameType}
+use Rattle.buffers.specs.declared.work.Work.{Work}
+use Rattle.major.specs.declared.SlotWork.{SlotWork}
 use Rattle.state.specs.List.{listed}
-use Rattle.state.specs.Major.{frameSamples, slotOf}
-use Rattle.state.specs.Deciding.{Input, dated, numberOf, refusal, decidedOf, DecidedIs}
+use Rattle.state.specs.Deciding.{Input, numberOf, refusal, decidedOf, DecidedIs}
 use Rattle.state.specs.Ending.{unended, ending, endedOf, endNumber, EndedIs}
 use Rattle.state.specs.declared.State.{State}
+use Rattle.state.specs.declared.closed.Works.{Works}
 use Rattle.state.specs.declared.deciding.Decided.{Decided}
 use Rattle.state.specs.declared.ending.Ended.{Ended}
-use Rattle.state.proofs.Told.{all-pass, passed-size, at-work, accepted-clock, real-type, cells-real}
-use Rattle.reader.specs.Buffers.{copiedBy, clearedBy, frameLaidBy, slotLaidBy}
-use Rattle.reader.specs.Steps.{sizedBy, buffers, sized, input, StepIs, FinishIs}
+use Rattle.state.proofs.Numbers.{refused-is}
+use Rattle.state.proofs.Told.{all-pass, passed-size, at-work, science-type, cells-science, slot-small}
+use Rattle.state.proofs.Closing.{end-clears}
+use Rattle.reader.specs.Buffers.{Buffers, buffers, sizedBy, sized, copiedBy, clearedBy, cellsAfter, samplesAfter, worked}
+use Rattle.reader.specs.Steps.{input, StepIs, FinishIs}
+use Rattle.reader.specs.Working.{FrameReady, SlotReady, CellsReady, SamplesReady, CellsWorked, SamplesWorked}
 use Rattle.reader.proofs.Lengths.{Sizes, sizes, length-cleared}
 
-module _ (s : State) (oc fc : List ℕ) (os fs : List ℤ) where
-  module _ (r : List ℕ) (t : Bool) (et : t ≡ sizedBy (length oc) (length fc) (length os) (length fs)) (x : Decided) (is : DecidedIs s t r x) where
+-- all four buffers, once the work is done on each pair
+pub all-worked : (w : Works) (p : List ℕ) (b : Buffers) (oc fc : List ℕ) (os fs : List ℤ)
+    → SamplesWorked (w .samples) p (b .openSamples) (b .finishedSamples) os fs
+    → CellsWorked (w .cells) p (b .openCells) (b .finishedCells) oc fc
+    → buffers oc fc os fs ≡ worked w p b
+all-worked w p b oc fc os fs s c = rw (s .opened, s .finished, c .opened, c .finished)
+
+frame-type : (r : List ℕ) → recordOf r .«frame_type» < 36 → frameType (frameCode (packetBytes r)) < types
+unfolding recordOf
+frame-type r h = h
+
+module _ (s : State) (b : Buffers) where
+  module _ (r : List ℕ) (t : Bool) (et : t ≡ sized b) (x : Decided) (is : DecidedIs s t r x) where
     abbrev i : Input
-    i = input s (buffers oc fc os fs) r
+    i = input s b r
 
     decided : x ≡ decidedOf i
-    decided = is .is ∙ ap (λ (b : Bool). decidedOf (record { state = s; sized = b; bytes = r })) et
+    decided = is .is ∙ ap (λ (z : Bool). decidedOf (record { state = s; sized = z; bytes = r })) et
 
     -- work is done on an accepted record, and then all is of its size
     accepted-so : (f : Decided → Bool) → f (refusal s (numberOf i)) ≡ false → f x ≡ true → numberOf i ≡ 0
     accepted-so f e h = at-work i f e (sym (ap f decided) ∙ h)
 
-    sizes-so : numberOf i ≡ 0 → Sizes (length oc) (length fc) (length os) (length fs)
-    sizes-so e = sizes (length oc) (length fc) (length os) (length fs) (all-pass i e .sized)
+    sizes-so : numberOf i ≡ 0 → Sizes (length (b .openCells)) (length (b .finishedCells)) (length (b .openSamples)) (length (b .finishedSamples))
+    sizes-so e = sizes _ _ _ _ (all-pass i e .sized)
 
-    pub samples-alike : x .samples .copies ≡ true → length os ≡ length fs
-    samples-alike h = let z = sizes-so (accepted-so (λ (d : Decided). d .samples .copies) refl h) in omega (arith, z)
+    module _ (p : List ℕ) (from at : ℕ × ℕ) (part : PacketAtIs r from p at) where
+      packet-so : length r ≡ size → p ≡ packetBytes r
+      packet-so h = part .bytes ∙ rw (eq-eqb (length r) size h)
 
-    pub cells-alike : x .cells .copies ≡ true → length oc ≡ length fc
-    cells-alike h = let z = sizes-so (accepted-so (λ (d : Decided). d .cells .copies) refl h) in omega (arith, z)
+      packet-size : numberOf i ≡ 0 → length p ≡ packetSize
+      packet-size e =
+          let h = passed-size i (all-pass i e) in
+          ap length (packet-so h) ∙ simp (length-take, length-drop) (omega (arith, h))
 
-    pub samples-room : (os′ : List ℤ) → os′ ≡ clearedBy (x .samples .clears) (pos 0) os → x .samples .lays ≡ true
-        → (length r ≡ size) × (length os′ ≡ frameSamples)
-    samples-room os′ e h =
-        let n = accepted-so (λ (d : Decided). d .samples .lays) refl h in
-        let z = sizes-so n in
-        (passed-size i (all-pass i n), ap length e ∙ length-cleared (x .samples .clears) (pos 0) os ∙ z .samples)
+      pub samples-ready : SamplesReady (x .works .samples) p (b .openSamples) (b .finishedSamples)
+      samples-ready = record {
+        alike = λ h. let z = sizes-so (accepted-so (λ (d : Decided). d .works .samples .work .copies) refl h) in omega (arith, z);
+        fits = λ h.
+            let n = accepted-so (λ (d : Decided). d .works .samples .work .lays) refl h in
+            record {
+              packet-size = packet-size n;
+              among = subst (λ (d : Decided). d .works .samples .slot < 16) (sym decided) (slot-small i);
+              samples-size = sizes-so n .samples;
+            };
+      }
 
-    pub cells-room : (oc′ : List ℕ) → oc′ ≡ clearedBy (x .cells .clears) 0 oc → x .cells .lays ≡ true
-        → (length r ≡ size) × (frameType (frameCode (packetBytes r)) < types) × (length oc′ ≡ cellsSize)
-    cells-room oc′ e h =
-        let n = accepted-so (λ (d : Decided). d .cells .lays) refl h in
-        let z = sizes-so n in
-        let k = sym (cells-real i n) ∙ sym (ap (λ (d : Decided). d .cells .lays) decided) ∙ h in
-        (passed-size i (all-pass i n), real-type r k, ap length e ∙ length-cleared (x .cells .clears) 0 oc ∙ z .cells)
+      pub cells-ready : CellsReady (x .works .cells) p (b .openCells) (b .finishedCells)
+      cells-ready = record {
+        alike = λ h. let z = sizes-so (accepted-so (λ (d : Decided). d .works .cells .copies) refl h) in omega (arith, z);
+        fits = λ h.
+            let n = accepted-so (λ (d : Decided). d .works .cells .lays) refl h in
+            let k = sym (cells-science i n) ∙ sym (ap (λ (d : Decided). d .works .cells .lays) decided) ∙ h in
+            let e = packet-so (passed-size i (all-pass i n)) in
+            record {
+              packet-size = packet-size n;
+              typed = rw e (frame-type r (science-type r k));
+              cells-size = sizes-so n .cells;
+            };
+      }
 
-    -- the slot by the next state's clock is the record's, where samples are laid
-    slot-so : (p : List ℕ) (d : List ℤ)
-        → slotLaidBy (decidedOf i .samples .lays) p (decidedOf i .stepped .state .clock .last % 16) d
-        ≡ slotLaidBy (decidedOf i .samples .lays) p (slotOf (dated i)) d
-    slot-so p d = go (eqb (numberOf i) 0) refl
-      where
-        go : (b : Bool) → eqb (numberOf i) 0 ≡ b
-            → slotLaidBy (decidedOf i .samples .lays) p (decidedOf i .stepped .state .clock .last % 16) d
-            ≡ slotLaidBy (decidedOf i .samples .lays) p (slotOf (dated i)) d
-        go true b = ap (λ (k : ℕ). slotLaidBy (decidedOf i .samples .lays) p (k % 16) d) (accepted-clock i (eqb-true (numberOf i) 0 b))
-        go false b = let e : decidedOf i .samples .lays ≡ false = ap (λ (y : Decided). y .samples .lays) (refused-is i (eqb-false (numberOf i) 0 b)) in rw e
+      -- where nothing is laid the packet makes no difference
+      other-packet : worked (decidedOf i .works) p b ≡ worked (decidedOf i .works) (packetBytes r) b
+      other-packet = go (eqb (numberOf i) 0) refl
+        where
+          go : (z : Bool) → eqb (numberOf i) 0 ≡ z → worked (decidedOf i .works) p b ≡ worked (decidedOf i .works) (packetBytes r) b
+          go true z =
+              let h = passed-size i (all-pass i (eqb-true (numberOf i) 0 z)) in
+              ap (λ (q : List ℕ). worked (decidedOf i .works) q b) (packet-so h)
+          go false z = rw (refused-is i (eqb-false (numberOf i) 0 z))
 
-    pub step-is : (oc₁ oc′ fc′ : List ℕ) (os₁ os′ fs′ : List ℤ)
-        → fs′ ≡ copiedBy (x .samples .copies) os fs
-        → os₁ ≡ clearedBy (x .samples .clears) (pos 0) os
-        → os′ ≡ slotLaidBy (x .samples .lays) (packetBytes r) (x .stepped .state .clock .last % 16) os₁
-        → fc′ ≡ copiedBy (x .cells .copies) oc fc
-        → oc₁ ≡ clearedBy (x .cells .clears) 0 oc
-        → oc′ ≡ frameLaidBy (x .cells .lays) (packetBytes r) oc₁
-        → StepIs s oc fc os fs r (x .stepped) oc′ fc′ os′ fs′
-    step-is oc₁ oc′ fc′ os₁ os′ fs′ a b c d e f =
-        let g = ap (λ (y : Decided). slotLaidBy (y .samples .lays) (packetBytes r) (y .stepped .state .clock .last % 16) (clearedBy (y .samples .clears) (pos 0) os)) decided in
-        record {
-          result = ap (λ (y : Decided). y .stepped) decided;
-          number = is .number ∙ ap (λ (b : Bool). numberOf (record { state = s; sized = b; bytes = r })) et;
-          cells-open = f ∙ ap (frameLaidBy (x .cells .lays) (packetBytes r)) e ∙ ap (λ (y : Decided). frameLaidBy (y .cells .lays) (packetBytes r) (clearedBy (y .cells .clears) 0 oc)) decided;
-          cells-finished = d ∙ ap (λ (y : Decided). copiedBy (y .cells .copies) oc fc) decided;
-          samples-open = c ∙ ap (slotLaidBy (x .samples .lays) (packetBytes r) (x .stepped .state .clock .last % 16)) b ∙ g ∙ slot-so (packetBytes r) (clearedBy (decidedOf i .samples .clears) (pos 0) os);
-          samples-finished = a ∙ ap (λ (y : Decided). copiedBy (y .samples .copies) os fs) decided;
-        }
+      pub step-is : (b′ : Buffers) → b′ ≡ worked (x .works) p b → StepIs s b r (x .stepped) b′
+      step-is b′ e = record {
+        result = ap (λ (y : Decided). y .stepped) decided;
+        number = is .number ∙ ap (λ (z : Bool). numberOf (record { state = s; sized = z; bytes = r })) et;
+        left = e ∙ ap (λ (y : Decided). worked (y .works) p b) decided ∙ other-packet;
+      }
 
-  module _ (t : Bool) (et : t ≡ sizedBy (length oc) (length fc) (length os) (length fs)) (x : Ended) (is : EndedIs s t x) where
-    ended-so : x ≡ endedOf s (sized (buffers oc fc os fs))
+  module _ (t : Bool) (et : t ≡ sized b) (x : Ended) (is : EndedIs s t x) where
+    ended-so : x ≡ endedOf s (sized b)
     ended-so = is .is ∙ ap (endedOf s) et
 
     -- something is copied only where all is of its size
-    sized-so : (f : Ended → Bool) → f (unended s) ≡ false → f x ≡ true → Sizes (length oc) (length fc) (length os) (length fs)
+    sized-so : (f : Ended → Bool) → f (unended s) ≡ false → f x ≡ true
+        → Sizes (length (b .openCells)) (length (b .finishedCells)) (length (b .openSamples)) (length (b .finishedSamples))
     unfolding endedOf
-    sized-so f e h = go (sized (buffers oc fc os fs) && listed s) refl (sym (ap f ended-so) ∙ h)
+    sized-so f e h = go (sized b && listed s) refl (sym (ap f ended-so) ∙ h)
       where
-        go : (b : Bool) → (sized (buffers oc fc os fs) && listed s) ≡ b → f (cond b (ending s) (unended s)) ≡ true → Sizes (length oc) (length fc) (length os) (length fs)
-        go true b q = sizes (length oc) (length fc) (length os) (length fs) (two _ _ b .0)
-        go false b q = absurd (true≢false (sym q ∙ e))
+        go : (z : Bool) → (sized b && listed s) ≡ z → f (cond z (ending s) (unended s)) ≡ true
+            → Sizes (length (b .openCells)) (length (b .finishedCells)) (length (b .openSamples)) (length (b .finishedSamples))
+        go true z q = sizes _ _ _ _ (two (sized b) (listed s) z .0)
+        go false z q = absurd (true≢false (sym q ∙ e))
 
-    pub samples-end : x .samples .copies ≡ true → length os ≡ length fs
-    samples-end h = let z = sized-so (λ (y : Ended). y .samples .copies) refl h in omega (arith, z)
+    no-lays : (f : Works → Bool) → f (endedOf s (sized b) .works) ≡ false → f (x .works) ≡ true → ⊥
+    no-lays f e h = true≢false (sym h ∙ ap (λ (y : Ended). f (y .works)) ended-so ∙ e)
 
-    pub cells-end : x .cells .copies ≡ true → length oc ≡ length fc
-    cells-end h = let z = sized-so (λ (y : Ended). y .cells .copies) refl h in omega (arith, z)
+    pub samples-end : SamplesReady (x .works .samples) [] (b .openSamples) (b .finishedSamples)
+    samples-end = record {
+      alike = λ h. let z = sized-so (λ (y : Ended). y .works .samples .work .copies) refl h in omega (arith, z);
+      fits = λ h. absurd (no-lays (λ (w : Works). w .samples .work .lays) (end-clears s (sized b) .samples-laid) h);
+    }
 
-    pub finish-is : (oc′ fc′ : List ℕ) (os′ fs′ : List ℤ)
-        → fs′ ≡ copiedBy (x .samples .copies) os fs
-        → os′ ≡ clearedBy (x .samples .clears) (pos 0) os
-        → fc′ ≡ copiedBy (x .cells .copies) oc fc
-        → oc′ ≡ clearedBy (x .cells .clears) 0 oc
-        → FinishIs s oc fc os fs (x .finished) oc′ fc′ os′ fs′
-    finish-is oc′ fc′ os′ fs′ a b c d = record {
+    pub cells-end : CellsReady (x .works .cells) [] (b .openCells) (b .finishedCells)
+    cells-end = record {
+      alike = λ h. let z = sized-so (λ (y : Ended). y .works .cells .copies) refl h in omega (arith, z);
+      fits = λ h. absurd (no-lays (λ (w : Works). w .cells .lays) (end-clears s (sized b) .cells-laid) h);
+    }
+
+    pub finish-is : (b′ : Buffers) → b′ ≡ worked (x .works) [] b → FinishIs s b (x .finished) b′
+    finish-is b′ e = record {
       result = ap (λ (y : Ended). y .finished) ended-so;
       number = is .number ∙ ap (endNumber s) et;
-      cells-open = d ∙ ap (λ (y : Ended). clearedBy (y .cells .clears) 0 oc) ended-so;
-      cells-finished = c ∙ ap (λ (y : Ended). copiedBy (y .cells .copies) oc fc) ended-so;
-      samples-open = b ∙ ap (λ (y : Ended). clearedBy (y .samples .clears) (pos 0) os) ended-so;
-      samples-finished = a ∙ ap (λ (y : Ended). copiedBy (y .samples .copies) os fs) ended-so;
+      left = e ∙ ap (λ (y : Ended). worked (y .works) [] b) ended-so;
     }

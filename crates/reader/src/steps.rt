@@ -1,13 +1,10 @@
-// Step and finish: what is decided is done to each buffer, one after another.
+// Step and finish: what is decided is done to the buffers.
 ghost use mathlib.Core.Path.{_≡_};
-ghost use Rattle.reader.specs.Steps.{sizedBy, StepIs, FinishIs};
+ghost use Rattle.reader.specs.Buffers.{sizedBy, buffers};
+ghost use Rattle.reader.specs.Steps.{StepIs, FinishIs};
 use crate::SAMPLES;
-use crate::cells_part::clear_cells;
-use crate::cells_part::copy_cells;
-use crate::cells_part::lay_cells;
-use crate::samples_part::clear_samples;
-use crate::samples_part::copy_samples;
-use crate::samples_part::lay_samples;
+use crate::cells_part::work_cells;
+use crate::samples_part::work_samples;
 use state::Finished;
 use state::State;
 use state::Stepped;
@@ -42,7 +39,10 @@ pub fn step(
     finished_samples: &mut [i16],
     r: &[u8],
 ) -> Stepped
-    ensures { λ x. ⌜ StepIs state (now («open_cells» .entry)) (now («finished_cells» .entry)) (now («open_samples» .entry)) (now («finished_samples» .entry)) (now (r .entry)) x (now («open_cells» .exit)) (now («finished_cells» .exit)) (now («open_samples» .exit)) (now («finished_samples» .exit)) ⌝ }
+    ensures { λ x. ⌜ StepIs state
+        (buffers (now («open_cells» .entry)) (now («finished_cells» .entry)) (now («open_samples» .entry)) (now («finished_samples» .entry)))
+        (now (r .entry)) x
+        (buffers (now («open_cells» .exit)) (now («finished_cells» .exit)) (now («open_samples» .exit)) (now («finished_samples» .exit))) ⌝ }
 {
     let sized = right_sizes(
         open_cells.len(),
@@ -52,15 +52,10 @@ pub fn step(
     );
     let decided = state::decide(state, sized, r);
     let stepped = decided.stepped;
-    let samples = decided.samples;
-    let cells = decided.cells;
-    let slot = (stepped.state.clock.last % 16) as usize;
-    copy_samples(samples.copies, open_samples, finished_samples);
-    clear_samples(samples.clears, open_samples);
-    lay_samples(samples.lays, r, open_samples, slot);
-    copy_cells(cells.copies, open_cells, finished_cells);
-    clear_cells(cells.clears, open_cells);
-    lay_cells(cells.lays, r, open_cells);
+    let works = decided.works;
+    let packet = record::packet_in(r);
+    work_samples(works.samples, packet, open_samples, finished_samples);
+    work_cells(works.cells, packet, open_cells, finished_cells);
     stepped
 }
 
@@ -72,7 +67,10 @@ pub fn finish(
     open_samples: &mut [i16],
     finished_samples: &mut [i16],
 ) -> Finished
-    ensures { λ x. ⌜ FinishIs state (now («open_cells» .entry)) (now («finished_cells» .entry)) (now («open_samples» .entry)) (now («finished_samples» .entry)) x (now («open_cells» .exit)) (now («finished_cells» .exit)) (now («open_samples» .exit)) (now («finished_samples» .exit)) ⌝ }
+    ensures { λ x. ⌜ FinishIs state
+        (buffers (now («open_cells» .entry)) (now («finished_cells» .entry)) (now («open_samples» .entry)) (now («finished_samples» .entry)))
+        x
+        (buffers (now («open_cells» .exit)) (now («finished_cells» .exit)) (now («open_samples» .exit)) (now («finished_samples» .exit))) ⌝ }
 {
     let sized = right_sizes(
         open_cells.len(),
@@ -82,11 +80,8 @@ pub fn finish(
     );
     let ended = state::end(state, sized);
     let finished = ended.finished;
-    let last_samples = ended.samples;
-    let last_cells = ended.cells;
-    copy_samples(last_samples.copies, open_samples, finished_samples);
-    clear_samples(last_samples.clears, open_samples);
-    copy_cells(last_cells.copies, open_cells, finished_cells);
-    clear_cells(last_cells.clears, open_cells);
+    let works = ended.works;
+    work_samples(works.samples, b"", open_samples, finished_samples);
+    work_cells(works.cells, b"", open_cells, finished_cells);
     finished
 }

@@ -1,10 +1,16 @@
 -- `reader::steps::finish` meets its contract.
 -- Assumes nothing.
+use mathlib.Core.List.{[]}
 use denote.Ref.{now}
-use Rattle.reader.proofs.Outcomes.{samples-end, cells-end, finish-is}
+use Rattle.reader.specs.Buffers.{buffers}
+use Rattle.reader.proofs.Outcomes.{samples-end, cells-end, all-worked, finish-is}
 use borrow.Author.Needs.{needs}
 use Rattle.reader.proofs.steps.finish.Statement.{statement}
 use Rattle.reader.proofs.steps.finish.Tie as tie
+use Rattle.reader.proofs.cells_part.work_cells.Reads as work-cells-reads
+use Rattle.reader.proofs.samples_part.work_samples.Reads as work-samples-reads
+use Rattle.reader.proofs.steps.right_sizes.Reads as right-sizes-reads
+use Rattle.state.proofs.end.Reads as end-reads
 
 right-sizes-requires : tie.Need-right-sizes-requires
 right-sizes-requires c κs = search needs
@@ -12,17 +18,24 @@ right-sizes-requires c κs = search needs
 end-requires : tie.Need-end-requires
 end-requires c κs = search needs
 
-copy-samples-requires : tie.Need-copy-samples-requires
-copy-samples-requires c κs = let a = c .before .before .before .before .before .before .before .before .before .args in samples-end (a .state) (now (a .open-cells)) (now (a .finished-cells)) (now (a .open-samples)) (now (a .finished-samples)) _ (c .before .before .before .before .before .before .right-sizes .ensures) _ (c .before .before .before .before .before .end .ensures)
+slice-aggregate-work-samples : tie.Need-slice-aggregate-work-samples
+slice-aggregate-work-samples c = search needs
 
-clear-samples-requires : tie.Need-clear-samples-requires
-clear-samples-requires c κs = search needs
+work-samples-requires : tie.Need-work-samples-requires
+work-samples-requires c κs =
+    let d = c .before .before .before .before .before in
+    let a = d .before .before .before .before .args in
+    samples-end (a .state) (buffers (now (a .open-cells)) (now (a .finished-cells)) (now (a .open-samples)) (now (a .finished-samples))) _ (d .before .right-sizes .ensures) _ (d .end .ensures)
 
-copy-cells-requires : tie.Need-copy-cells-requires
-copy-cells-requires c κs = let a = c .before .before .before .before .before .before .before .before .before .before .before .before .before .before .before .before .args in cells-end (a .state) (now (a .open-cells)) (now (a .finished-cells)) (now (a .open-samples)) (now (a .finished-samples)) _ (c .before .before .before .before .before .before .before .before .before .before .before .before .before .right-sizes .ensures) _ (c .before .before .before .before .before .before .before .before .before .before .before .before .end .ensures)
+slice-aggregate-work-cells : tie.Need-slice-aggregate-work-cells
+slice-aggregate-work-cells c = search needs
 
-clear-cells-requires : tie.Need-clear-cells-requires
-clear-cells-requires c κs = search needs
+work-cells-requires : tie.Need-work-cells-requires
+work-cells-requires c κs =
+    let v = c .before .before .before .before .before in
+    let d = v .before .before .before .before .before .before in
+    let a = d .before .before .before .before .args in
+    cells-end (a .state) (buffers (now (a .open-cells)) (now (a .finished-cells)) (now (a .open-samples)) (now (a .finished-samples))) _ (d .before .right-sizes .ensures) _ (d .end .ensures)
 
 same-length : tie.Need-same-length
 same-length c = search needs
@@ -38,9 +51,13 @@ same-length-4 c = search needs
 
 returns : tie.Need-returns
 returns c =
-    let a = c .before .before .before .before .before .before .before .before .before .before .before .before .before .before .before .before .before .before .before .before .before .before .before .args in
-    finish-is (a .state) (now (a .open-cells)) (now (a .finished-cells)) (now (a .open-samples)) (now (a .finished-samples)) _ (c .before .before .before .before .before .before .before .before .before .before .before .before .before .before .before .before .before .before .before .before .right-sizes .ensures) _ (c .before .before .before .before .before .before .before .before .before .before .before .before .before .before .before .before .before .before .before .end .ensures)
-    _ _ _ _ (c .before .before .before .before .before .before .before .before .before .before .before .before .before .copy-samples .ensures) (c .before .before .before .before .before .before .before .before .before .before .clear-samples .ensures) (c .before .before .before .before .before .before .copy-cells .ensures) (c .before .before .clear-cells .ensures)
+    let w = c .before .before .before .before in
+    let v = w .before .before .before .before .before .before in
+    let d = v .before .before .before .before .before .before in
+    let a = d .before .before .before .before .args in
+    let b = buffers (now (a .open-cells)) (now (a .finished-cells)) (now (a .open-samples)) (now (a .finished-samples)) in
+    finish-is (a .state) b _ (d .before .right-sizes .ensures) _ (d .end .ensures) _
+    (all-worked (d .end .result .works) [] b _ _ _ _ (v .work-samples .ensures) (w .work-cells .ensures))
 
 pub finish-spec : {M : Type 1} → statement M
 finish-spec =
@@ -48,10 +65,10 @@ finish-spec =
     (tie.spec
     right-sizes-requires
     end-requires
-    copy-samples-requires
-    clear-samples-requires
-    copy-cells-requires
-    clear-cells-requires
+    slice-aggregate-work-samples
+    work-samples-requires
+    slice-aggregate-work-cells
+    work-cells-requires
     same-length
     same-length-2
     same-length-3

@@ -1,7 +1,7 @@
 -- `reader::steps::right_sizes` meets its contract.
 -- Assumes nothing.
 use borrow.Author.Tests.{eq-eqb, ne-eqb}
-use Rattle.reader.specs.Steps.{sizedBy}
+use Rattle.reader.specs.Buffers.{sizedBy}
 use borrow.Author.Needs.{needs}
 use Rattle.reader.proofs.steps.right_sizes.Statement.{statement}
 use Rattle.reader.proofs.steps.right_sizes.Tie as tie

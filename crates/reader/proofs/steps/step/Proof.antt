@@ -1,11 +1,16 @@
 -- `reader::steps::step` meets its contract.
 -- Assumes nothing.
 use denote.Ref.{now}
-use Rattle.reader.proofs.Outcomes.{samples-alike, samples-room, cells-alike, cells-room, step-is}
-use native.Mathlib.Omega.{arith}
+use Rattle.reader.specs.Buffers.{buffers}
+use Rattle.reader.proofs.Outcomes.{samples-ready, cells-ready, all-worked, step-is}
 use borrow.Author.Needs.{needs}
 use Rattle.reader.proofs.steps.step.Statement.{statement}
 use Rattle.reader.proofs.steps.step.Tie as tie
+use Rattle.reader.proofs.cells_part.work_cells.Reads as work-cells-reads
+use Rattle.reader.proofs.samples_part.work_samples.Reads as work-samples-reads
+use Rattle.reader.proofs.steps.right_sizes.Reads as right-sizes-reads
+use Rattle.record.proofs.packet_in.Reads as packet-in-reads
+use Rattle.state.proofs.decide.Reads as decide-reads
 
 right-sizes-requires : tie.Need-right-sizes-requires
 right-sizes-requires c κs = search needs
@@ -13,23 +18,24 @@ right-sizes-requires c κs = search needs
 decide-requires : tie.Need-decide-requires
 decide-requires c κs = search needs
 
-copy-samples-requires : tie.Need-copy-samples-requires
-copy-samples-requires c κs = let a = c .before .before .before .before .before .before .before .before .before .before .before .args in samples-alike (a .state) (now (a .open-cells)) (now (a .finished-cells)) (now (a .open-samples)) (now (a .finished-samples)) (now (a .r)) _ (c .before .before .before .before .before .before .before .right-sizes .ensures) _ (c .before .before .before .before .before .before .decide .ensures)
+packet-in-requires : tie.Need-packet-in-requires
+packet-in-requires c κs = search needs
 
-clear-samples-requires : tie.Need-clear-samples-requires
-clear-samples-requires c κs = search needs
+work-samples-requires : tie.Need-work-samples-requires
+work-samples-requires c κs =
+    let p = c .before .before in
+    let d = p .before .before .before in
+    let a = d .before .before .before .before .before .args in
+    samples-ready (a .state) (buffers (now (a .open-cells)) (now (a .finished-cells)) (now (a .open-samples)) (now (a .finished-samples))) (now (a .r)) _ (d .before .right-sizes .ensures) _ (d .decide .ensures)
+    _ (a .r .ptr) _ (p .packet-in .ensures)
 
-lay-samples-requires : tie.Need-lay-samples-requires
-lay-samples-requires c κs = (omega arith, let a = c .before .before .before .before .before .before .before .before .before .before .before .before .before .before .before .before .before .args in samples-room (a .state) (now (a .open-cells)) (now (a .finished-cells)) (now (a .open-samples)) (now (a .finished-samples)) (now (a .r)) _ (c .before .before .before .before .before .before .before .before .before .before .before .before .before .right-sizes .ensures) _ (c .before .before .before .before .before .before .before .before .before .before .before .before .decide .ensures) _ (c .before .before .clear-samples .ensures))
-
-copy-cells-requires : tie.Need-copy-cells-requires
-copy-cells-requires c κs = let a = c .before .before .before .before .before .before .before .before .before .before .before .before .before .before .before .before .before .before .before .before .before .args in cells-alike (a .state) (now (a .open-cells)) (now (a .finished-cells)) (now (a .open-samples)) (now (a .finished-samples)) (now (a .r)) _ (c .before .before .before .before .before .before .before .before .before .before .before .before .before .before .before .before .before .right-sizes .ensures) _ (c .before .before .before .before .before .before .before .before .before .before .before .before .before .before .before .before .decide .ensures)
-
-clear-cells-requires : tie.Need-clear-cells-requires
-clear-cells-requires c κs = search needs
-
-lay-cells-requires : tie.Need-lay-cells-requires
-lay-cells-requires c κs = let a = c .before .before .before .before .before .before .before .before .before .before .before .before .before .before .before .before .before .before .before .before .before .before .before .before .before .before .before .before .before .args in cells-room (a .state) (now (a .open-cells)) (now (a .finished-cells)) (now (a .open-samples)) (now (a .finished-samples)) (now (a .r)) _ (c .before .before .before .before .before .before .before .before .before .before .before .before .before .before .before .before .before .before .before .before .before .before .before .before .before .right-sizes .ensures) _ (c .before .before .before .before .before .before .before .before .before .before .before .before .before .before .before .before .before .before .before .before .before .before .before .before .decide .ensures) _ (c .before .before .before .clear-cells .ensures)
+work-cells-requires : tie.Need-work-cells-requires
+work-cells-requires c κs =
+    let p = c .before .before .before .before .before .before .before in
+    let d = p .before .before .before in
+    let a = d .before .before .before .before .before .args in
+    cells-ready (a .state) (buffers (now (a .open-cells)) (now (a .finished-cells)) (now (a .open-samples)) (now (a .finished-samples))) (now (a .r)) _ (d .before .right-sizes .ensures) _ (d .decide .ensures)
+    _ (a .r .ptr) _ (p .packet-in .ensures)
 
 same-length : tie.Need-same-length
 same-length c = search needs
@@ -45,9 +51,14 @@ same-length-4 c = search needs
 
 returns : tie.Need-returns
 returns c =
-    let a = c .before .before .before .before .before .before .before .before .before .before .before .before .before .before .before .before .before .before .before .before .before .before .before .before .before .before .before .before .before .before .before .before .args in
-    step-is (a .state) (now (a .open-cells)) (now (a .finished-cells)) (now (a .open-samples)) (now (a .finished-samples)) (now (a .r)) _ (c .before .before .before .before .before .before .before .before .before .before .before .before .before .before .before .before .before .before .before .before .before .before .before .before .before .before .before .before .right-sizes .ensures) _ (c .before .before .before .before .before .before .before .before .before .before .before .before .before .before .before .before .before .before .before .before .before .before .before .before .before .before .before .decide .ensures)
-    _ _ _ _ _ _ (c .before .before .before .before .before .before .before .before .before .before .before .before .before .before .before .before .before .before .before .before .copy-samples .ensures) (c .before .before .before .before .before .before .before .before .before .before .before .before .before .before .before .before .before .clear-samples .ensures) (c .before .before .before .before .before .before .before .before .before .before .before .before .before .before .lay-samples .ensures) (c .before .before .before .before .before .before .before .before .before .before .copy-cells .ensures) (c .before .before .before .before .before .before .clear-cells .ensures) (c .before .before .lay-cells .ensures)
+    let w = c .before .before .before .before in
+    let v = w .before .before .before .before .before in
+    let p = v .before .before .before in
+    let d = p .before .before .before in
+    let a = d .before .before .before .before .before .args in
+    let b = buffers (now (a .open-cells)) (now (a .finished-cells)) (now (a .open-samples)) (now (a .finished-samples)) in
+    step-is (a .state) b (now (a .r)) _ (d .before .right-sizes .ensures) _ (d .decide .ensures) _ (a .r .ptr) _ (p .packet-in .ensures) _
+    (all-worked (d .decide .result .works) _ b _ _ _ _ (v .work-samples .ensures) (w .work-cells .ensures))
 
 pub step-spec : {M : Type 1} → statement M
 step-spec =
@@ -55,12 +66,9 @@ step-spec =
     (tie.spec
     right-sizes-requires
     decide-requires
-    copy-samples-requires
-    clear-samples-requires
-    lay-samples-requires
-    copy-cells-requires
-    clear-cells-requires
-    lay-cells-requires
+    packet-in-requires
+    work-samples-requires
+    work-cells-requires
     same-length
     same-length-2
     same-length-3
