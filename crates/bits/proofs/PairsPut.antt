@@ -44,7 +44,7 @@ module _ (o : Order) (x y : ℕ) where
   pair-forth b l h p q = rw (← p, ← q, ← split o b 0 12 12) (bytes-forth o b 3 l h)
 
 -- the numbers of three bytes of a room
-numbers : (o : Order) (b : List ℕ) (at k : ℕ) → k < 2 → at + 3 ≤ length b → twelveIn o (drop at b) k ≡ twelve o (take 3 (drop at b)) k
+pub numbers : (o : Order) (b : List ℕ) (at k : ℕ) → k < 2 → at + 3 ≤ length b → twelveIn o (drop at b) k ≡ twelve o (take 3 (drop at b)) k
 numbers o b at k l h =
     let e : length (drop at b) ≡ length b - at = length-drop at b in
     rw (le-leb (12 * k + 12) (8 * length (drop at b)) (omega arith)) (rw zero-add at (number-part o (drop at b) 0 3 (12 * k) 12 (omega arith)))

@@ -20,7 +20,7 @@ use Rattle.bits.proofs.Rooms.{part-laid, laid-same, own-only}
 use Rattle.bits.proofs.WordBytes.{inside, small-word}
 
 -- a word is that of its own bytes
-word-part : (b : List ℕ) (at n : ℕ) → at + n ≤ length b → wordIn b at n ≡ number most (take n (drop at b)) 0 (8 * n)
+pub word-part : (b : List ℕ) (at n : ℕ) → at + n ≤ length b → wordIn b at n ≡ number most (take n (drop at b)) 0 (8 * n)
 word-part b at n h = sym (inside b at n h) ∙ rw (add-zero (8 * at)) at (number-part most b at n 0 (8 * n) (omega arith))
 
 -- written where it is not too wide

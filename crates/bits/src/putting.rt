@@ -26,7 +26,7 @@ fn byte(x: u64, rank: usize) -> u8
 }
 
 // The n bytes of x from `at` on.
-pub fn put(room: &mut [u8], at: usize, n: usize, x: u64, rising: bool)
+pub(crate) fn put(room: &mut [u8], at: usize, n: usize, x: u64, rising: bool)
     requires { ⌜ n ≤ 8 ⌝ }
     ensures { λ _. ⌜ now (room .exit) ≡ laid (bytesOf (cond rising least most) n x) (now (room .entry)) at ⌝ }
 {
