@@ -1,7 +1,7 @@
 -- Where the parts of a whole stand, and a room that is filled part after part.
 -- Assumes nothing.
 use mathlib.Core.List.{List, [], _∷_, _++_, append-assoc, append-nil}
-use mathlib.Core.Option.{some}
+use mathlib.Core.Option.{Option, some}
 use mathlib.Core.Path.{_≡_, refl, sym, ap, _∙_}
 use Prim.Native.Nat.{ℕ, zero, suc, _+_, _-_, _*_, _<_, _≤_}
 use native.Mathlib.Nat.{add-assoc, add-comm, add-zero, zero-mul, suc-mul}
@@ -14,6 +14,7 @@ use Rattle.tables.specs.Every.{Every}
 use Rattle.tables.proofs.Built.{length-build}
 use Rattle.tables.proofs.Every.{every-joined}
 use Rattle.buffers.specs.Laying.{patch}
+use Rattle.buffers.proofs.Patches.{length-patch}
 use Rattle.formats.specs.Part.{Part, PartLaw, readAt}
 use Rattle.formats.specs.Wholes.{both, pair, _then_, writeAll, readAll, _times_, ThenAt, TimesAt}
 use Rattle.formats.proofs.Laws.{all-sized}
@@ -44,9 +45,28 @@ pub patch-none : (d : List ℕ) (at : ℕ) → patch d at [] ≡ d
 unfolding patch
 patch-none d at = rw (add-zero at) (take-append-drop at d)
 
+-- a room keeps its length
+pub length-written : {A : Type 0} {p : Part A} → PartLaw p → (room : List ℕ) (at : ℕ) (v : A) → p .Holds v → at + p .size ≤ length room
+    → length (patch room at (p .write v)) ≡ length room
+length-written {p = p} P room at v h k = length-patch room at (p .write v) (omega (arith, P .sized v h))
+
 -- what follows the first m of m + n places
 cut : (x : List ℕ) (m n : ℕ) → m ≤ length x → drop m (take (m + n) x) ≡ take n (drop m x)
 cut x m n h = ap (drop m) (take-add m n x) ∙ drop-at (take m x) (take n (drop m x)) m (length-take-le m x h)
+
+-- a whole read by its parts
+module _ {A B : Type 0} (p : Part A) (q : Part B) (b : List ℕ) (at : ℕ) (h : at + (p then q) .size ≤ length b) where
+  then-told : readAt (p then q) b at ≡ both pair (readAt p b at) (readAt q b (at + p .size))
+  then-told =
+      let x = drop at b in
+      let l : length x ≡ length b - at = length-drop at b in
+      rw (take-take (p .size) (p .size + q .size) x (omega arith), cut x (p .size) (q .size) (omega arith), drop-drop (p .size) at b)
+
+  pub then-read : (x : A) (y : B) → readAt p b at ≡ some x → readAt q b (at + p .size) ≡ some y → readAt (p then q) b at ≡ some (x, y)
+  then-read x y d e =
+      then-told
+      ∙ ap (λ (r : Option A). both pair r (readAt q b (at + p .size))) d
+      ∙ ap (λ (r : Option B). both {B = B} {C = A × B} pair (some x) r) e
 
 pub then-at : {A B : Type 0} {p : Part A} (q : Part B) → PartLaw p → ThenAt p q
 then-at {A = A} {B = B} {p = p} q P = record {
@@ -56,10 +76,7 @@ then-at {A = A} {B = B} {p = p} q P = record {
       let l = P .sized (v .0) (h .0) in
       let s = p .write (v .0) in
       ap (λ (n : ℕ). patch (patch room at s) (at + n) (q .write (v .1))) (sym l) ∙ patch-then room at s (q .write (v .1)) (omega arith);
-  told = λ b at h.
-      let x = drop at b in
-      let l : length x ≡ length b - at = length-drop at b in
-      rw (take-take (p .size) (p .size + q .size) x (omega arith), cut x (p .size) (q .size) (omega arith), drop-drop (p .size) at b);
+  told = λ b at h. then-told p q b at h;
 }
 
 module _ {A : Type 0} {p : Part A} (P : PartLaw p) where
