@@ -11,12 +11,11 @@ use lib.ListN.{length, getD, take, drop, length-take, List·getD-eq-default}
 use lib.Pow as pow
 use lib.Seq.{ext-getD, getD-take, getD-drop}
 use borrow.Author.Tests.{ltb-true, ltb-false}
-use Rattle.tables.specs.Build.{build}
 use Rattle.tables.proofs.Built.{length-build, getD-build}
 use Rattle.bits.specs.Numbers.{Order, least, most, bit, join, number}
 use Rattle.bits.specs.Twelve.{Bytes}
 use Rattle.bits.specs.Putting.{rankOf, bytesOf}
-use Rattle.bits.proofs.Numbers.{below, own, bits, number-byte, one-more}
+use Rattle.bits.proofs.Numbers.{below, own, same-byte, one-more}
 
 module _ (o : Order) (n x : ℕ) where
   abbrev byteAt : ℕ → ℕ
@@ -78,16 +77,8 @@ bytes-back o n x h = firsts o n x h n (omega arith) ∙ part-all o n x h
 -- the number determines its bytes
 pub same-bytes : (o : Order) (b b′ : List ℕ) (n : ℕ) → length b ≡ n → length b′ ≡ n → Bytes b → Bytes b′
     → number o b 0 (8 * n) ≡ number o b′ 0 (8 * n) → b ≡ b′
-same-bytes o b b′ n l l′ h h′ e = ext-getD 0 b b′ (l ∙ sym l′) same
-  where
-    same-bit : (i j : ℕ) → i < n → j < 8 → bit o b (8 * i + j) ≡ bit o b′ (8 * i + j)
-    same-bit i j k m = rw (zero-add (8 * i + j)) at (bits o b b′ 0 0 (8 * n) e (8 * i + j) (omega arith))
-
-    same : (i : ℕ) → i < length b → getD b i 0 ≡ getD b′ i 0
-    same i k =
-        sym (number-byte o b i (h i))
-        ∙ own o b b′ (8 * i) (8 * i) 8 (λ j m. same-bit i j (omega arith) m)
-        ∙ number-byte o b′ i (h′ i)
+same-bytes o b b′ n l l′ h h′ e =
+    ext-getD 0 b b′ (l ∙ sym l′) (λ j k. rw zero-add at (same-byte o b b′ 0 n e j (omega arith) (h (0 + j)) (h′ (0 + j))))
 
 -- what was read is written the same
 pub bytes-forth : (o : Order) (b : List ℕ) (n : ℕ) → length b ≡ n → Bytes b → bytesOf o n (number o b 0 (8 * n)) ≡ b

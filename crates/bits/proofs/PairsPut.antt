@@ -74,7 +74,9 @@ module _ (o : Order) (room : List ℕ) (at x y : ℕ) where
   stands : at + 3 ≤ length room → x < 4096 → y < 4096 → (k : ℕ) → k < 2 → twelveIn o (drop at (pairPut o room at x y)) k ≡ twelve o (pairBytes o x y) k
   stands h p q k l =
       let s = pairBytes o x y in
-      rw (← narrow p q) (numbers o (laid s room at) at k l (omega (arith, length-laid s room at)) ∙ ap (λ (b : List ℕ). twelve o b k) (part-laid room at s 3 (length-pair o x y) h))
+      rw (← narrow p q)
+      (numbers o (laid s room at) at k l (omega (arith, length-laid s room at))
+      ∙ ap (λ (b : List ℕ). twelve o b k) (part-laid room at s 3 (length-pair o x y) h))
 
 forth : (o : Order) (room : List ℕ) (at : ℕ) → Bytes room → pairPut o room at (twelveIn o (drop at room) 0) (twelveIn o (drop at room) 1) ≡ room
 forth o room at bytes = go (leb (at + 3) (length room)) refl

@@ -1,22 +1,18 @@
 -- The law of signed 16-bit numbers, and what their code computes.
 -- Assumes nothing.
 use mathlib.Core.Bool.{Bool, true, false, false≢true}
-use mathlib.Core.List.{List}
 use mathlib.Core.Path.{_≡_, refl, sym, ap, _∙_}
-use Prim.Native.Nat.{ℕ, suc, _+_, _-_, _*_, _<_, _≤_}
+use Prim.Native.Nat.{ℕ, suc, _-_, _<_, _≤_}
 use native.Mathlib.Omega.{arith}
 use lib.Dec.{T, ltb}
 use lib.IntN.{ℤ, pos, negsuc, natAbs, _+ℤ_, _-ℤ_}
-use lib.ListN.{length}
-use lib.Signed.{mag, ltZ, nonNeg}
+use lib.Signed.{ltZ, nonNeg}
 use mir.Syntax.{w16, w32}
 use mir.Val.{Fits, SFits, toZ, ofZ}
 use mir.ValLaws.{toZ-pos, toZ-ofZ}
 use borrow.Author.Tests.{lt-ltb, le-ltb, ltb-true, ltb-false}
 use Rattle.bits.specs.Numbers.{wordIn}
-use Rattle.bits.specs.Twelve.{Bytes}
-use Rattle.bits.specs.Putting.{wordPut}
-use Rattle.bits.specs.Signed.{signedOf, unsignedOf, InSixteen, signedIn, signedPut, SignedLaw}
+use Rattle.bits.specs.Signed.{signedOf, unsignedOf, InSixteen, SignedLaw}
 use Rattle.bits.proofs.WordBytes.{small-word}
 use Rattle.bits.proofs.WordsPut as words
 

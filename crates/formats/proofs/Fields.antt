@@ -1,39 +1,31 @@
--- The law of each kind of part; and that what is written into a room by bits' definitions is that part laid over it, and what they
--- read that part read at its place.
+-- The law of each kind of part.
 -- Assumes nothing.
-use mathlib.Core.Bool.{Bool, true, false, cond, _&&_, false≢true}
-use mathlib.Core.List.{List, [], _∷_, _++_}
-use mathlib.Core.Option.{Option, none, some, Option·some-injective, Option·some-ne-none}
-use mathlib.Core.Path.{_≡_, refl, sym, ap, subst, _∙_}
-use Prim.Native.Nat.{ℕ, zero, suc, _+_, _*_, _^_, _<_, _≤_}
-use native.Mathlib.Nat.{add-zero}
-use native.Mathlib.Numerals.{add-one}
+use mathlib.Core.Bool.{Bool, true, false, cond, false≢true}
+use mathlib.Core.List.{List, [], _∷_}
+use mathlib.Core.Option.{none, some, Option·some-injective, Option·some-ne-none}
+use mathlib.Core.Path.{_≡_, refl, sym, ap, _∙_}
+use Prim.Native.Nat.{ℕ, zero, suc, _+_, _*_, _^_, _<_}
 use native.Mathlib.Omega.{arith}
 use lib.Dec.{eqb, ltb}
 use lib.IntN.{ℤ}
-use lib.ListN.{length, getD, set, take, drop, length-drop}
+use lib.ListN.{length, getD}
 use lib.Pow.{areBytes}
-use lib.Seq.{set-split, getD-take, getD-drop, length-take-le}
 use borrow.Author.Tests.{eqb-true, eq-eqb, ltb-true, le-leb}
 use Rattle.tables.proofs.Conds.{two}
-use Rattle.tables.proofs.Upto.{is-true}
-use Rattle.buffers.specs.Laying.{patch, laid}
-use Rattle.buffers.proofs.Patches.{laid-in}
 use Rattle.bits.specs.Numbers.{Order, most, number, wordIn, twelve, twelveIn}
 use Rattle.bits.specs.Twelve.{Bytes}
-use Rattle.bits.specs.Putting.{bytesOf, wordPut}
-use Rattle.bits.specs.Signed.{signedOf, unsignedOf, InSixteen, signedIn, signedPut}
-use Rattle.bits.specs.Pairs.{pairBytes, pairPut}
+use Rattle.bits.specs.Putting.{bytesOf}
+use Rattle.bits.specs.Signed.{signedOf, unsignedOf, signedIn}
+use Rattle.bits.specs.Pairs.{pairBytes}
 use Rattle.bits.proofs.BytesOf.{length-bytes, are-bytes, bytes-back, bytes-forth}
 use Rattle.bits.proofs.WordBytes.{inside, small-word}
-use Rattle.bits.proofs.WordsPut.{word-part, narrow}
 use Rattle.bits.proofs.SignedPut.{unsigned-small, signed-back, signed-forth}
 use Rattle.bits.proofs.PairsPut as pairs
-use Rattle.formats.specs.Part.{PartLaw, readAt}
+use Rattle.formats.specs.Part.{PartLaw}
 use Rattle.formats.specs.Fields.{word, byte, signed, pairOf, same, fixed}
 
 -- n bytes as a word
-exact : (b : List ℕ) (n : ℕ) → length b ≡ n → wordIn b 0 n ≡ number most b 0 (8 * n)
+pub exact : (b : List ℕ) (n : ℕ) → length b ≡ n → wordIn b 0 n ≡ number most b 0 (8 * n)
 exact b n l = sym (inside b 0 n (omega arith))
 
 word-back : (n x : ℕ) → x < 2 ^ (8 * n) → wordIn (bytesOf most n x) 0 n ≡ x
@@ -74,7 +66,7 @@ pub byte-law : PartLaw byte
 byte-law = record { sized = λ x h. refl; bytes = one-byte; back = λ x h. refl; forth = λ b x l h e k. byte-forth b x l e }
 
 -- three bytes as two numbers
-exact-pair : (o : Order) (b : List ℕ) (k : ℕ) → k < 2 → length b ≡ 3 → twelveIn o b k ≡ twelve o b k
+pub exact-pair : (o : Order) (b : List ℕ) (k : ℕ) → k < 2 → length b ≡ 3 → twelveIn o b k ≡ twelve o b k
 exact-pair o b k h l = rw (le-leb (12 * k + 12) (8 * length b) (omega arith))
 
 pair-back : (o : Order) (v : ℕ × ℕ) → pairOf o .Holds v → pairOf o .read (pairOf o .write v) ≡ some v
@@ -128,45 +120,3 @@ fixed-law m t = record {
   back = λ v h. rw (same-self m);
   forth = λ b v l h e k. fixed-forth (same b m) b m v refl e;
 }
-
--- Each kind written into a room, where it lies wholly in it.
-module _ (room : List ℕ) (at : ℕ) where
-  pub word-put : (n x : ℕ) → at + n ≤ length room → word n .Holds x → wordPut room at n x ≡ patch room at (word n .write x)
-  word-put n x h k = sym (narrow room at n x k) ∙ laid-in (bytesOf most n x) room at (omega (arith, length-bytes most n x))
-
-  pub signed-put : (z : ℤ) → at + 2 ≤ length room → signed .Holds z → signedPut room at z ≡ patch room at (signed .write z)
-  signed-put z h k = word-put 2 (unsignedOf z) h (unsigned-small z k)
-
-  pub pair-put : (o : Order) (x y : ℕ) → at + 3 ≤ length room → x < 4096 → y < 4096 → pairPut o room at x y ≡ patch room at (pairOf o .write (x, y))
-  pair-put o x y h i j = sym (pairs.narrow o room at x y i j) ∙ laid-in (pairBytes o x y) room at (omega (arith, pairs.length-pair o x y))
-
-  pub byte-put : (x : ℕ) → at < length room → set room at x ≡ patch room at (byte .write x)
-  unfolding patch
-  byte-put x h = rw (add-one at) (set-split room at x h)
-
--- Each kind read at its place, where it lies wholly in the bytes.
-module _ (b : List ℕ) (at : ℕ) where
-  part-length : (n : ℕ) → at + n ≤ length b → length (take n (drop at b)) ≡ n
-  part-length n h = length-take-le n (drop at b) (simp length-drop (omega arith))
-
-  word-same : (n : ℕ) → at + n ≤ length b → wordIn (take n (drop at b)) 0 n ≡ wordIn b at n
-  word-same n h = exact (take n (drop at b)) n (part-length n h) ∙ sym (word-part b at n h)
-
-  pub word-read : (n : ℕ) → at + n ≤ length b → readAt (word n) b at ≡ some (wordIn b at n)
-  word-read n h = ap some (word-same n h)
-
-  pub signed-read : at + 2 ≤ length b → readAt signed b at ≡ some (signedIn b at)
-  signed-read h = ap (λ (w : ℕ). some (signedOf w)) (word-same 2 h)
-
-  pub pair-read : (o : Order) → at + 3 ≤ length b → readAt (pairOf o) b at ≡ some (twelveIn o (drop at b) 0, twelveIn o (drop at b) 1)
-  pair-read o h =
-      let l = part-length 3 h in
-      rw (
-        exact-pair o (take 3 (drop at b)) 0 (omega arith) l,
-        exact-pair o (take 3 (drop at b)) 1 (omega arith) l,
-        pairs.numbers o b at 0 (omega arith) h,
-        pairs.numbers o b at 1 (omega arith) h,
-      )
-
-  pub byte-read : readAt byte b at ≡ some (getD b at 0)
-  byte-read = ap some (getD-take 1 (drop at b) 0 0 (omega arith) ∙ getD-drop at b 0 0 ∙ ap (λ (k : ℕ). getD b k 0) (add-zero at))

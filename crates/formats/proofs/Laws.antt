@@ -4,7 +4,7 @@ use mathlib.Core.Bool.{Bool, true, false}
 use mathlib.Core.List.{List, [], _∷_, _++_}
 use mathlib.Core.Option.{Option, none, some, Option·some-injective, Option·some-ne-none}
 use mathlib.Core.Path.{_≡_, refl, sym, ap, subst, _∙_}
-use Prim.Native.Nat.{ℕ, zero, suc, _+_, _-_, _*_, _<_, _≤_}
+use Prim.Native.Nat.{ℕ, zero, suc, _+_, _-_, _*_, _<_}
 use native.Mathlib.Nat.{add-comm, zero-mul, suc-mul}
 use native.Mathlib.Omega.{arith}
 use lib.Dec.{ltb}
@@ -96,7 +96,8 @@ module _ {A : Type 0} {p : Part A} (P : PartLaw p) where
 
   all-forth : (n : ℕ) (b : List ℕ) (xs : List A) → length b ≡ n * p .size → Bytes b → readAll p n b ≡ some xs → Every (p .Holds) xs → writeAll p xs ≡ b
   unfolding writeAll readAll Every
-  all-forth zero b xs l h e = subst (λ (xs : List A). Every (p .Holds) xs → writeAll p xs ≡ b) (Option·some-injective [] xs e) (λ k. empty b (l ∙ zero-mul (p .size)))
+  all-forth zero b xs l h e =
+      subst (λ (xs : List A). Every (p .Holds) xs → writeAll p xs ≡ b) (Option·some-injective [] xs e) (λ k. empty b (l ∙ zero-mul (p .size)))
   all-forth (suc n) b xs l h e =
       let s = p .size in
       let d = both-some _∷_ (p .read (take s b)) (readAll p n (drop s b)) xs e in

@@ -16,7 +16,7 @@ use Rattle.tables.proofs.Every.{every-joined}
 use Rattle.buffers.specs.Laying.{patch}
 use Rattle.buffers.proofs.Patches.{length-patch}
 use Rattle.formats.specs.Part.{Part, PartLaw, readAt}
-use Rattle.formats.specs.Wholes.{both, pair, _then_, writeAll, readAll, _times_, ThenAt, TimesAt}
+use Rattle.formats.specs.Wholes.{both, pair, _then_, writeAll, readAll, ThenAt, TimesAt}
 use Rattle.formats.proofs.Laws.{all-sized}
 
 -- one list laid over another, and then a second after it
@@ -127,7 +127,9 @@ module _ {A : Type 0} {p : Part A} (P : PartLaw p) where
       let i : length x ≡ length b - at = length-drop at b in
       let one : p .read (take s x) ≡ some (f 0) = rw (zero-mul s, add-zero at) at (h 0 (omega arith)) in
       let step : (k : ℕ) → k < n → readAt p b (at + s + k * s) ≡ some (f (suc k)) =
-      λ k j. ap (λ (m : ℕ). readAt p b m) (add-assoc at s (k * s) ∙ ap (λ (m : ℕ). at + m) (add-comm s (k * s) ∙ sym (suc-mul k s))) ∙ h (suc k) (omega arith) in
+      λ k j.
+      let q : at + s + k * s ≡ at + suc k * s = add-assoc at s (k * s) ∙ ap (λ (m : ℕ). at + m) (add-comm s (k * s) ∙ sym (suc-mul k s)) in
+      ap (λ (m : ℕ). readAt p b m) q ∙ h (suc k) (omega arith) in
       let rest = told n b (at + s) (λ k. f (suc k)) (omega arith) step in
       rw (e, take-take s (s + n * s) x (omega arith), cut x s (n * s) (omega arith), drop-drop s at b, one, rest) (ap some (build-first f n))
 

@@ -1,4 +1,5 @@
--- The parts that formats are made of. Each has its law in proofs/Fields.antt.
+-- The parts that formats are made of. Each has its law in proofs/Fields.antt, and in proofs/Places.antt that bits' functions write
+-- and read it.
 -- Assumes nothing.
 use mathlib.Core.Bool.{Bool, true, false, cond, _&&_}
 use mathlib.Core.List.{List, [], _∷_}
