@@ -11,12 +11,12 @@ use Rattle.buffers.specs.Laying.{laid}
 use Rattle.bits.specs.Numbers.{Order, least, most, wordIn}
 use Rattle.bits.specs.Twelve.{Bytes}
 
--- how many of the n bytes weigh less than byte k
+-- how many of n bytes weigh less than byte k
 abbrev pub rankOf : Order → ℕ → ℕ → ℕ
 rankOf least n k = k
 rankOf most n k = n - suc k
 
--- the n bytes of a number below 2 ^ (8 n)
+-- the n bytes of a number below 2 ^ (8 n): least significant first, or most
 unfoldable pub bytesOf : Order → ℕ → ℕ → List ℕ
 bytesOf o n x = build (λ k. x / 2 ^ (8 * rankOf o n k) % 256) n
 

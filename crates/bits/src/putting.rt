@@ -7,7 +7,7 @@ ghost use Rattle.buffers.specs.Laying.{laid};
 ghost use Rattle.bits.specs.Numbers.{least, most};
 ghost use Rattle.bits.specs.Putting.{rankOf, bytesOf, wordPut};
 
-// How many of n bytes weigh less than byte k, whose weights rise or fall.
+// How many of n bytes weigh less than byte k, where the weights rise from the first byte to the last, or fall.
 fn rank(rising: bool, n: usize, k: usize) -> usize
     requires { ⌜ k < n ⌝ }
     ensures { λ r. ⌜ r ≡ rankOf (cond rising least most) n k ⌝ }
@@ -18,6 +18,7 @@ fn rank(rising: bool, n: usize, k: usize) -> usize
     n - 1 - k
 }
 
+// The byte of x above `rank` others.
 fn byte(x: u64, rank: usize) -> u8
     requires { ⌜ rank < 8 ⌝ }
     ensures { λ b. ⌜ b ≡ x / 2 ^ (8 * rank) % 256 ⌝ }
@@ -25,7 +26,7 @@ fn byte(x: u64, rank: usize) -> u8
     ((x >> (8 * rank)) % 256) as u8
 }
 
-// The n bytes of x from `at` on.
+// The n bytes of x from `at` on, where they lie wholly in the room. All that is written goes through this loop.
 pub(crate) fn put(room: &mut [u8], at: usize, n: usize, x: u64, rising: bool)
     requires { ⌜ n ≤ 8 ⌝ }
     ensures { λ _. ⌜ now (room .exit) ≡ laid (bytesOf (cond rising least most) n x) (now (room .entry)) at ⌝ }
