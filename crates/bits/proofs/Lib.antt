@@ -2,3 +2,8 @@ pub mod Joins
 pub mod Numbers
 pub mod TwelveBits
 pub mod WordBytes
+pub mod BytesOf
+pub mod Rooms
+pub mod WordsPut
+pub mod SignedPut
+pub mod PairsPut

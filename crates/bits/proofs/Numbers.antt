@@ -2,7 +2,7 @@
 -- Assumes nothing.
 use mathlib.Core.Path.{_≡_, refl, sym, ap, _∙_}
 use mathlib.Core.List.{List}
-use Prim.Native.Nat.{ℕ, zero, suc, _+_, _-_, _*_, _/_, _%_, _^_, _<_}
+use Prim.Native.Nat.{ℕ, zero, suc, _+_, _*_, _/_, _%_, _^_, _<_}
 use native.Mathlib.Nat.{add-zero, add-assoc, add-suc}
 use native.Mathlib.Numerals.{add-one}
 use native.Mathlib.Omega.{arith}
@@ -59,7 +59,9 @@ pub bits : (o : Order) (b b′ : List ℕ) (i i′ n : ℕ) → number o b i n �
 unfolding number
 bits o b b′ i i′ zero e j h = absurd (omega arith)
 bits o b b′ i i′ (suc n) e j h =
-    let d = join-same o n 1 (number o b i n) (bit o b (i + n)) (number o b′ i′ n) (bit o b′ (i′ + n)) (below o b i n) (bit-below o b (i + n)) (below o b′ i′ n) (bit-below o b′ (i′ + n)) e in
+    let d =
+    join-same o n 1 (number o b i n) (bit o b (i + n)) (number o b′ i′ n) (bit o b′ (i′ + n))
+    (below o b i n) (bit-below o b (i + n)) (below o b′ i′ n) (bit-below o b′ (i′ + n)) e in
     last-or (λ j. bit o b (i + j) ≡ bit o b′ (i′ + j)) n (bits o b b′ i i′ n (d .0)) (d .1) j h
 
 -- a bit of the byte at place h
@@ -83,11 +85,15 @@ unfolding both join bitOf front back
 every-byte least = tt
 every-byte most = tt
 
-front-bits : (o : Order) (x : ℕ) → x < 256 → four o x 0 ≡ front o x
-front-bits o x h = eqb→eq (four o x 0) (front o x) (both-left (eqb (four o x 0) (front o x)) (eqb (four o x 4) (back o x)) (upto-at (right o) 256 (every-byte o) x h))
+module _ (o : Order) (x : ℕ) (h : x < 256) where
+  told : T (right o x)
+  told = upto-at (right o) 256 (every-byte o) x h
 
-back-bits : (o : Order) (x : ℕ) → x < 256 → four o x 4 ≡ back o x
-back-bits o x h = eqb→eq (four o x 4) (back o x) (both-right (eqb (four o x 0) (front o x)) (eqb (four o x 4) (back o x)) (upto-at (right o) 256 (every-byte o) x h))
+  front-bits : four o x 0 ≡ front o x
+  front-bits = eqb→eq (four o x 0) (front o x) (both-left (eqb (four o x 0) (front o x)) (eqb (four o x 4) (back o x)) told)
+
+  back-bits : four o x 4 ≡ back o x
+  back-bits = eqb→eq (four o x 4) (back o x) (both-right (eqb (four o x 0) (front o x)) (eqb (four o x 4) (back o x)) told)
 
 halves : (o : Order) (x : ℕ) → join o 4 (front o x) 4 (back o x) ≡ x
 unfolding join front back
@@ -98,16 +104,30 @@ halves most x = omega arith
 module _ (o : Order) (b : List ℕ) (h : ℕ) (byte : getD b h 0 < 256) where
   pub number-front : number o b (8 * h) 4 ≡ front o (getD b h 0)
   unfolding number
-  number-front = rw (bit-in o b h 0 (omega arith), bit-in o b h 1 (omega arith), bit-in o b h 2 (omega arith), bit-in o b h 3 (omega arith)) (front-bits o (getD b h 0) byte)
+  number-front =
+      rw (bit-in o b h 0 (omega arith), bit-in o b h 1 (omega arith), bit-in o b h 2 (omega arith), bit-in o b h 3 (omega arith))
+      (front-bits o (getD b h 0) byte)
 
   pub number-back : number o b (8 * h + 4) 4 ≡ back o (getD b h 0)
   unfolding number
   number-back =
-      rw (add-assoc (8 * h) 4 0, add-assoc (8 * h) 4 1, add-assoc (8 * h) 4 2, add-assoc (8 * h) 4 3, bit-in o b h 4 (omega arith), bit-in o b h 5 (omega arith), bit-in o b h 6 (omega arith), bit-in o b h 7 (omega arith))
-      (back-bits o (getD b h 0) byte)
+      rw (add-assoc (8 * h) 4 0, add-assoc (8 * h) 4 1, add-assoc (8 * h) 4 2, add-assoc (8 * h) 4 3)
+      (rw (bit-in o b h 4 (omega arith), bit-in o b h 5 (omega arith), bit-in o b h 6 (omega arith), bit-in o b h 7 (omega arith))
+      (back-bits o (getD b h 0) byte))
 
   pub number-byte : number o b (8 * h) 8 ≡ getD b h 0
   number-byte = split o b (8 * h) 4 4 ∙ rw (number-front, number-back) (halves o (getD b h 0))
+
+-- n bytes that make one number are the same
+pub same-byte : (o : Order) (b b′ : List ℕ) (h n : ℕ) → number o b (8 * h) (8 * n) ≡ number o b′ (8 * h) (8 * n) → (j : ℕ) → j < n
+    → getD b (h + j) 0 < 256 → getD b′ (h + j) 0 < 256 → getD b (h + j) 0 ≡ getD b′ (h + j) 0
+same-byte o b b′ h n e j l x y =
+    sym (number-byte o b (h + j) x) ∙ own o b b′ (8 * (h + j)) (8 * (h + j)) 8 same ∙ number-byte o b′ (h + j) y
+  where
+    same : (i : ℕ) → i < 8 → bit o b (8 * (h + j) + i) ≡ bit o b′ (8 * (h + j) + i)
+    same i k =
+        let p : 8 * h + (8 * j + i) ≡ 8 * (h + j) + i = omega arith in
+        rw p at (bits o b b′ (8 * h) (8 * h) (8 * n) e (8 * j + i) (omega arith))
 
 -- a byte more
 pub one-more : (o : Order) (b : List ℕ) (h n : ℕ) → getD b (h + n) 0 < 256

@@ -12,8 +12,7 @@ use borrow.Author.Tests.{eqb-true, eqb-false, leb-true, le-leb, lt-leb, not-true
 use Rattle.bits.specs.Numbers.{Order, least, most, join, number, twelve, twelveIn}
 use Rattle.bits.specs.Twelve.{Bytes, front, back, fromBytes, TwelveLaw}
 use Rattle.bits.specs.Parts.{PartsOf}
-use Rattle.bits.proofs.Joins.{join-same, join-below}
-use Rattle.bits.proofs.Numbers.{below, own, split, number-front, number-back, number-byte, one-more}
+use Rattle.bits.proofs.Numbers.{below, own, split, number-front, number-back, number-byte, same-byte}
 
 module _ (o : Order) (b : List ℕ) (h : ℕ) where
   pub even : getD b (3 * h) 0 < 256 → getD b (3 * h + 1) 0 < 256
@@ -43,11 +42,6 @@ is o b k bytes = go (eqb (k % 2) 0) refl
         let e : 12 * k ≡ 24 * (k / 2) + 12 = omega (arith, eqb-false (k % 2) 0 t) in
         rw (e, t, mul-comm (k / 2) 3) (odd o b (k / 2) (bytes _) (bytes _))
 
--- three bytes as one number
-bytes-of : (o : Order) (b : List ℕ) (h : ℕ) → Bytes b
-    → number o b (8 * h) 24 ≡ join o 16 (join o 8 (getD b h 0) 8 (getD b (h + 1) 0)) 8 (getD b (h + 2) 0)
-bytes-of o b h bytes = one-more o b h 2 (bytes _) ∙ rw (one-more o b h 1 (bytes _), number-byte o b h (bytes _))
-
 -- two numbers as one
 pair-of : (o : Order) (b : List ℕ) (h : ℕ) → number o b (8 * (3 * h)) 24 ≡ join o 12 (twelve o b (2 * h)) 12 (twelve o b (2 * h + 1))
 pair-of o b h =
@@ -59,25 +53,9 @@ pair-of o b h =
 pub three : (o : Order) (b b′ : List ℕ) (h : ℕ) → Bytes b → Bytes b′
     → twelve o b (2 * h) ≡ twelve o b′ (2 * h) → twelve o b (2 * h + 1) ≡ twelve o b′ (2 * h + 1)
     → (j : ℕ) → j < 3 → getD b (3 * h + j) 0 ≡ getD b′ (3 * h + j) 0
-three o b b′ h bytes bytes′ p q = place
-  where
-    g : ℕ
-    g = 3 * h
-
-    e : join o 16 (join o 8 (getD b g 0) 8 (getD b (g + 1) 0)) 8 (getD b (g + 2) 0) ≡ join o 16 (join o 8 (getD b′ g 0) 8 (getD b′ (g + 1) 0)) 8 (getD b′ (g + 2) 0)
-    e = sym (bytes-of o b g bytes) ∙ pair-of o b h ∙ rw (p, q) (sym (pair-of o b′ h)) ∙ bytes-of o b′ g bytes′
-
-    last : (join o 8 (getD b g 0) 8 (getD b (g + 1) 0) ≡ join o 8 (getD b′ g 0) 8 (getD b′ (g + 1) 0)) × (getD b (g + 2) 0 ≡ getD b′ (g + 2) 0)
-    last = join-same o 16 8 _ _ _ _ (join-below o 8 8 _ _ (bytes g) (bytes (g + 1))) (bytes (g + 2)) (join-below o 8 8 _ _ (bytes′ g) (bytes′ (g + 1))) (bytes′ (g + 2)) e
-
-    firsts : (getD b g 0 ≡ getD b′ g 0) × (getD b (g + 1) 0 ≡ getD b′ (g + 1) 0)
-    firsts = join-same o 8 8 _ _ _ _ (bytes g) (bytes (g + 1)) (bytes′ g) (bytes′ (g + 1)) (last .0)
-
-    place : (j : ℕ) → j < 3 → getD b (g + j) 0 ≡ getD b′ (g + j) 0
-    place zero k = rw (add-zero g) (firsts .0)
-    place (suc zero) k = firsts .1
-    place (suc (suc zero)) k = last .1
-    place (suc (suc (suc j))) k = absurd (omega arith)
+three o b b′ h bytes bytes′ p q j l =
+    let e : number o b (8 * (3 * h)) 24 ≡ number o b′ (8 * (3 * h)) 24 = pair-of o b h ∙ rw (p, q) (sym (pair-of o b′ h)) in
+    same-byte o b b′ (3 * h) 3 e j l (bytes (3 * h + j)) (bytes′ (3 * h + j))
 
 pub law : TwelveLaw
 law o b k bytes = record {
@@ -115,7 +93,8 @@ pub from-parts : (o : Order) (b : List ℕ) (k w s : ℕ) → Bytes b → PartsO
 unfolding fromBytes
 from-parts o b k w s bytes p = go (leb (12 * k + 12) (8 * length b)) (eqb (k % 2) 0) refl refl
   where
-    go : (t e : Bool) → leb (12 * k + 12) (8 * length b) ≡ t → eqb (k % 2) 0 ≡ e → cond (eqb (k % 2) 0) (join o 8 w 4 (front o s)) (join o 4 (back o s) 8 w) ≡ twelveIn o b k
+    go : (t e : Bool) → leb (12 * k + 12) (8 * length b) ≡ t → eqb (k % 2) 0 ≡ e
+        → cond (eqb (k % 2) 0) (join o 8 w 4 (front o s)) (join o 4 (back o s) 8 w) ≡ twelveIn o b k
     go true true t e = rw (p .whole-is, p .shared-is, t, law o b k bytes .is, e, eqb-true (k % 2) 0 e, add-zero (k / 2 * 3))
     go true false t e = let one : k % 2 ≡ 1 = omega (arith, eqb-false (k % 2) 0 e) in rw (p .whole-is, p .shared-is, t, law o b k bytes .is, e, one)
     go false true t e = rw (p .whole-is, p .shared-is, t, e) (nothing-even o)

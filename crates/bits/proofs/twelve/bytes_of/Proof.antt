@@ -11,28 +11,51 @@ inside-requires : tie.Need-inside-requires
 inside-requires c κs = search needs
 
 returns : tie.Need-returns
-returns c = let a = c .before .before .before .args in no-parts (now (a .b)) (a .k) (c .before .inside .result) (c .before .inside .ensures) (c .if1 .taken)
+returns c =
+    let a = c .before .before .before .args in
+    let i = c .before .inside in
+    no-parts (now (a .b)) (a .k) (i .result) (i .ensures) (c .if1 .taken)
 
 mul-at : tie.Need-mul-at
-mul-at c = let d = c in let a = d .before .before .before .args in omega (arith, room (now (a .b)) (a .k) (d .before .inside .result) (d .before .inside .ensures) (d .if1 .left))
+mul-at c =
+    let d = c in
+    let a = d .before .before .before .args in
+    let i = d .before .inside in
+    omega (arith, room (now (a .b)) (a .k) (i .result) (i .ensures) (d .if1 .left))
 
 mul-wide : tie.Need-mul-wide
 mul-wide c = search needs
 
 add-wide : tie.Need-add-wide
-add-wide c = let d = c in let a = d .before .before .before .args in omega (arith, room (now (a .b)) (a .k) (d .before .inside .result) (d .before .inside .ensures) (d .if1 .left))
+add-wide c =
+    let d = c in
+    let a = d .before .before .before .args in
+    let i = d .before .inside in
+    omega (arith, room (now (a .b)) (a .k) (i .result) (i .ensures) (d .if1 .left))
 
 shared-slice-read-wide : tie.Need-shared-slice-read-wide
-shared-slice-read-wide c = let d = c .before in let a = d .before .before .before .args in omega (arith, room (now (a .b)) (a .k) (d .before .inside .result) (d .before .inside .ensures) (d .if1 .left))
+shared-slice-read-wide c =
+    let d = c .before in
+    let a = d .before .before .before .args in
+    let i = d .before .inside in
+    omega (arith, room (now (a .b)) (a .k) (i .result) (i .ensures) (d .if1 .left))
 
 wide-requires : tie.Need-wide-requires
 wide-requires c κs = search needs
 
 add-wide-2 : tie.Need-add-wide-2
-add-wide-2 c = let d = c .before .before in let a = d .before .before .before .args in omega (arith, room (now (a .b)) (a .k) (d .before .inside .result) (d .before .inside .ensures) (d .if1 .left))
+add-wide-2 c =
+    let d = c .before .before in
+    let a = d .before .before .before .args in
+    let i = d .before .inside in
+    omega (arith, room (now (a .b)) (a .k) (i .result) (i .ensures) (d .if1 .left))
 
 shared-slice-read-wide-2 : tie.Need-shared-slice-read-wide-2
-shared-slice-read-wide-2 c = let d = c .before .before .before in let a = d .before .before .before .args in omega (arith, room (now (a .b)) (a .k) (d .before .inside .result) (d .before .inside .ensures) (d .if1 .left))
+shared-slice-read-wide-2 c =
+    let d = c .before .before .before in
+    let a = d .before .before .before .args in
+    let i = d .before .inside in
+    omega (arith, room (now (a .b)) (a .k) (i .result) (i .ensures) (d .if1 .left))
 
 wide-requires-2 : tie.Need-wide-requires-2
 wide-requires-2 c κs = search needs
@@ -41,8 +64,11 @@ returns-2 : tie.Need-returns-2
 returns-2 c =
     let d = c .before .before .before .before in
     let a = d .before .before .before .args in
+    let i = d .before .inside in
     let w = c .before .before .wide in
-    both-parts (now (a .b)) (a .k) (d .before .inside .result) (d .before .inside .ensures) (d .if1 .left) (w .result) (c .wide2 .result) (w .ensures .0) (w .ensures .1) (c .wide2 .ensures .0) (c .wide2 .ensures .1)
+    let s = c .wide2 in
+    both-parts (now (a .b)) (a .k) (i .result) (i .ensures) (d .if1 .left)
+    (w .result) (s .result) (w .ensures .0) (w .ensures .1) (s .ensures .0) (s .ensures .1)
 
 pub bytes-of-spec : {M : Type 1} → statement M
 bytes-of-spec =

@@ -17,7 +17,8 @@ returns : tie.Need-returns
 returns c =
     let a = c .before .before .before .args in
     let p = c .before .bytes-of in
-    c .joined .ensures ∙ at-least (now (a .b)) (a .k) (p .result .whole) (p .result .shared) (λ i. c .before .before .shared-slice-known .given i .fits) (p .ensures)
+    let known = c .before .before .shared-slice-known in
+    c .joined .ensures ∙ at-least (now (a .b)) (a .k) (p .result .whole) (p .result .shared) (λ i. known .given i .fits) (p .ensures)
 
 pub twelve-least-spec : {M : Type 1} → statement M
 twelve-least-spec = tie.close (tie.spec bytes-of-requires joined-requires returns)

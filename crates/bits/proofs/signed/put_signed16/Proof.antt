@@ -1,0 +1,32 @@
+-- `bits::signed::put_signed16` meets its contract.
+-- Assumes nothing.
+use mathlib.Core.Path.{_∙_, ap}
+use Prim.Native.Nat.{ℕ}
+use denote.Ref.{now}
+use mir.Syntax.{w16}
+use mir.ValLaws.{toZ-ofZ}
+use Rattle.bits.specs.Putting.{wordPut}
+use Rattle.bits.specs.Signed.{unsignedOf}
+use borrow.Author.Needs.{needs}
+use Rattle.bits.proofs.signed.put_signed16.Statement.{statement}
+use Rattle.bits.proofs.signed.put_signed16.Tie as tie
+
+to-word-requires : tie.Need-to-word-requires
+to-word-requires c κs = search needs
+
+put16-requires : tie.Need-put16-requires
+put16-requires c κs = search needs
+
+same-length : tie.Need-same-length
+same-length c = search needs
+
+returns : tie.Need-returns
+returns c =
+    let p = c .before .before in
+    let s = p .before .before .before .before in
+    let a = s .args in
+    p .put16 .ensures
+    ∙ ap (λ (w : ℕ). wordPut (now (a .room)) (a .at) 2 w) (p .before .to-word .ensures ∙ ap unsignedOf (toZ-ofZ w16 (a .z) (s .fits .z)))
+
+pub put-signed16-spec : {M : Type 1} → statement M
+put-signed16-spec = tie.close (tie.spec to-word-requires put16-requires same-length returns)

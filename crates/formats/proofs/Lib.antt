@@ -1,0 +1,4 @@
+pub mod Laws
+pub mod Offsets
+pub mod Fields
+pub mod Places

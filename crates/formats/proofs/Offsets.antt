@@ -1,0 +1,143 @@
+-- Where the parts of a whole stand, and a room that is filled part after part.
+-- Assumes nothing.
+use mathlib.Core.List.{List, [], _∷_, _++_, append-assoc, append-nil}
+use mathlib.Core.Option.{Option, some}
+use mathlib.Core.Path.{_≡_, refl, sym, ap, _∙_}
+use Prim.Native.Nat.{ℕ, zero, suc, _+_, _-_, _*_, _<_, _≤_}
+use native.Mathlib.Nat.{add-assoc, add-comm, add-zero, zero-mul, suc-mul}
+use native.Mathlib.Numerals.{add-one}
+use native.Mathlib.Omega.{arith}
+use lib.ListN.{length, getD, take, drop, length-append, length-drop, take-append-drop}
+use lib.Seq.{take-at, drop-at, drop-drop, take-add, take-take, length-take-le}
+use Rattle.tables.specs.Build.{build}
+use Rattle.tables.specs.Every.{Every}
+use Rattle.tables.proofs.Built.{length-build}
+use Rattle.tables.proofs.Every.{every-joined}
+use Rattle.buffers.specs.Laying.{patch}
+use Rattle.buffers.proofs.Patches.{length-patch}
+use Rattle.formats.specs.Part.{Part, PartLaw, readAt}
+use Rattle.formats.specs.Wholes.{both, pair, _then_, writeAll, readAll, ThenAt, TimesAt}
+use Rattle.formats.proofs.Laws.{all-sized}
+
+-- one list laid over another, and then a second after it
+pub patch-then : (d : List ℕ) (at : ℕ) (s t : List ℕ) → at + length s ≤ length d → patch (patch d at s) (at + length s) t ≡ patch d at (s ++ t)
+unfolding patch
+patch-then d at s t h =
+    let m = at + length s in
+    let a = take at d ++ s in
+    let r = drop m d in
+    let e : take at d ++ (s ++ r) ≡ a ++ r = sym (append-assoc (take at d) s r) in
+    let l : length a ≡ m = length-append (take at d) s ∙ ap (λ (n : ℕ). n + length s) (length-take-le at d (omega arith)) in
+    let f : take m (take at d ++ (s ++ r)) ≡ a = ap (take m) e ∙ take-at a r m l in
+    let g : drop (m + length t) (take at d ++ (s ++ r)) ≡ drop (m + length t) d =
+    sym (drop-drop (length t) m (take at d ++ (s ++ r)))
+    ∙ ap (λ (x : List ℕ). drop (length t) (drop m x)) e
+    ∙ ap (drop (length t)) (drop-at a r m l)
+    ∙ drop-drop (length t) m d in
+    let k : m + length t ≡ at + length (s ++ t) = add-assoc at (length s) (length t) ∙ ap (λ (n : ℕ). at + n) (sym (length-append s t)) in
+    ap (λ (x : List ℕ). x ++ (t ++ drop (m + length t) (take at d ++ (s ++ r)))) f
+    ∙ ap (λ (x : List ℕ). a ++ (t ++ x)) g
+    ∙ append-assoc (take at d) s (t ++ drop (m + length t) d)
+    ∙ ap (λ (x : List ℕ). take at d ++ x) (sym (append-assoc s t (drop (m + length t) d)))
+    ∙ ap (λ (n : ℕ). take at d ++ ((s ++ t) ++ drop n d)) k
+
+pub patch-none : (d : List ℕ) (at : ℕ) → patch d at [] ≡ d
+unfolding patch
+patch-none d at = rw (add-zero at) (take-append-drop at d)
+
+-- a room keeps its length
+pub length-written : {A : Type 0} {p : Part A} → PartLaw p → (room : List ℕ) (at : ℕ) (v : A) → p .Holds v → at + p .size ≤ length room
+    → length (patch room at (p .write v)) ≡ length room
+length-written {p = p} P room at v h k = length-patch room at (p .write v) (omega (arith, P .sized v h))
+
+-- what follows the first m of m + n places
+cut : (x : List ℕ) (m n : ℕ) → m ≤ length x → drop m (take (m + n) x) ≡ take n (drop m x)
+cut x m n h = ap (drop m) (take-add m n x) ∙ drop-at (take m x) (take n (drop m x)) m (length-take-le m x h)
+
+-- a whole read by its parts
+module _ {A B : Type 0} (p : Part A) (q : Part B) (b : List ℕ) (at : ℕ) (h : at + (p then q) .size ≤ length b) where
+  then-told : readAt (p then q) b at ≡ both pair (readAt p b at) (readAt q b (at + p .size))
+  then-told =
+      let x = drop at b in
+      let l : length x ≡ length b - at = length-drop at b in
+      rw (take-take (p .size) (p .size + q .size) x (omega arith), cut x (p .size) (q .size) (omega arith), drop-drop (p .size) at b)
+
+  pub then-read : (x : A) (y : B) → readAt p b at ≡ some x → readAt q b (at + p .size) ≡ some y → readAt (p then q) b at ≡ some (x, y)
+  then-read x y d e =
+      then-told
+      ∙ ap (λ (r : Option A). both pair r (readAt q b (at + p .size))) d
+      ∙ ap (λ (r : Option B). both {B = B} {C = A × B} pair (some x) r) e
+
+pub then-at : {A B : Type 0} {p : Part A} (q : Part B) → PartLaw p → ThenAt p q
+then-at {A = A} {B = B} {p = p} q P = record {
+  first = λ v h. take-at (p .write (v .0)) (q .write (v .1)) (p .size) (P .sized (v .0) (h .0));
+  second = λ v h. drop-at (p .write (v .0)) (q .write (v .1)) (p .size) (P .sized (v .0) (h .0));
+  filled = λ room at v h k.
+      let l = P .sized (v .0) (h .0) in
+      let s = p .write (v .0) in
+      ap (λ (n : ℕ). patch (patch room at s) (at + n) (q .write (v .1))) (sym l) ∙ patch-then room at s (q .write (v .1)) (omega arith);
+  told = λ b at h. then-told p q b at h;
+}
+
+module _ {A : Type 0} {p : Part A} (P : PartLaw p) where
+  element : (xs : List A) → Every (p .Holds) xs → (k : ℕ) (z : A) → k < length xs → take (p .size) (drop (k * p .size) (writeAll p xs)) ≡ p .write (getD xs k z)
+  unfolding writeAll Every
+  element [] h k z l = absurd (omega arith)
+  element (x ∷ xs) h zero z l = rw (zero-mul (p .size)) (take-at (p .write x) (writeAll p xs) (p .size) (P .sized x (h .0)))
+  element (x ∷ xs) h (suc k) z l =
+      let s = p .size in
+      let e : suc k * s ≡ s + k * s = suc-mul k s ∙ add-comm (k * s) s in
+      let w = p .write x ++ writeAll p xs in
+      rw (e, ← drop-drop (k * s) s w, drop-at (p .write x) (writeAll p xs) s (P .sized x (h .0))) (element xs (h .1) k z (omega arith))
+
+  write-append : (xs ys : List A) → writeAll p (xs ++ ys) ≡ writeAll p xs ++ writeAll p ys
+  unfolding writeAll
+  write-append [] ys = refl
+  write-append (x ∷ xs) ys = rw (write-append xs ys) (sym (append-assoc (p .write x) (writeAll p xs) (writeAll p ys)))
+
+  write-more : (f : ℕ → A) (k : ℕ) → writeAll p (build f (k + 1)) ≡ writeAll p (build f k) ++ p .write (f k)
+  unfolding build writeAll
+  write-more f k = rw (add-one k) (write-append (build f k) (f k ∷ []) ∙ ap (λ (x : List ℕ). writeAll p (build f k) ++ x) (append-nil (p .write (f k))))
+
+  every-build : (f : ℕ → A) (k : ℕ) → ((j : ℕ) → j < k → p .Holds (f j)) → Every (p .Holds) (build f k)
+  unfolding build Every
+  every-build f zero h = tt
+  every-build f (suc k) h = every-joined (p .Holds) (build f k) (f k ∷ []) (every-build f k (λ j l. h j (omega arith))) (h k (omega arith), tt)
+
+  more : (room : List ℕ) (at k : ℕ) (f : ℕ → A) → ((j : ℕ) → j < k → p .Holds (f j)) → at + k * p .size ≤ length room
+      → patch (patch room at (writeAll p (build f k))) (at + k * p .size) (p .write (f k)) ≡ patch room at (writeAll p (build f (k + 1)))
+  more room at k f h l =
+      let s = writeAll p (build f k) in
+      let e : length s ≡ k * p .size = all-sized P (build f k) (every-build f k h) ∙ ap (λ (n : ℕ). n * p .size) (length-build f k) in
+      rw (write-more f k) (ap (λ (n : ℕ). patch (patch room at s) (at + n) (p .write (f k))) (sym e) ∙ patch-then room at s (p .write (f k)) (omega arith))
+
+  build-first : (f : ℕ → A) (n : ℕ) → f 0 ∷ build (λ k. f (suc k)) n ≡ build f (suc n)
+  unfolding build
+  build-first f zero = refl
+  build-first f (suc n) = ap (λ (x : List A). x ++ (f (suc n) ∷ [])) (build-first f n)
+
+  told : (n : ℕ) (b : List ℕ) (at : ℕ) (f : ℕ → A) → at + n * p .size ≤ length b → ((k : ℕ) → k < n → readAt p b (at + k * p .size) ≡ some (f k))
+      → readAll p n (take (n * p .size) (drop at b)) ≡ some (build f n)
+  unfolding readAll build
+  told zero b at f l h = refl
+  told (suc n) b at f l h =
+      let s = p .size in
+      let x = drop at b in
+      let e : suc n * s ≡ s + n * s = suc-mul n s ∙ add-comm (n * s) s in
+      let i : length x ≡ length b - at = length-drop at b in
+      let one : p .read (take s x) ≡ some (f 0) = rw (zero-mul s, add-zero at) at (h 0 (omega arith)) in
+      let step : (k : ℕ) → k < n → readAt p b (at + s + k * s) ≡ some (f (suc k)) =
+      λ k j.
+      let q : at + s + k * s ≡ at + suc k * s = add-assoc at s (k * s) ∙ ap (λ (m : ℕ). at + m) (add-comm s (k * s) ∙ sym (suc-mul k s)) in
+      ap (λ (m : ℕ). readAt p b m) q ∙ h (suc k) (omega arith) in
+      let rest = told n b (at + s) (λ k. f (suc k)) (omega arith) step in
+      rw (e, take-take s (s + n * s) x (omega arith), cut x s (n * s) (omega arith), drop-drop s at b, one, rest) (ap some (build-first f n))
+
+  pub times-at : TimesAt p
+  unfolding writeAll
+  times-at = record {
+    element = λ n xs h k z l. element xs (h .1) k z (omega (arith, h .0));
+    none = patch-none;
+    more = more;
+    told = λ b at n f h k. told n b at f h k;
+  }

@@ -1,0 +1,94 @@
+-- Wholes are parts again: one part and then another, a part so many times, and a part whose value is seen as another. Sizes and
+-- offsets follow from the parts in order: `ThenAt` and `TimesAt`.
+-- Assumes nothing.
+use mathlib.Core.List.{List, [], _∷_, _++_}
+use mathlib.Core.Option.{Option, none, some}
+use mathlib.Core.Path.{_≡_}
+use Prim.Native.Nat.{ℕ, zero, suc, _+_, _*_, _<_, _≤_}
+use lib.ListN.{length, getD, take, drop}
+use Rattle.tables.specs.Build.{build}
+use Rattle.tables.specs.Every.{Every}
+use Rattle.buffers.specs.Laying.{patch}
+use Rattle.formats.specs.Part.{Part, readAt}
+
+infixr 4 _then_
+infixr 5 _times_
+-- of two values that may be missing
+abbrev pub both : {A B C : Type 0} → (A → B → C) → Option A → Option B → Option C
+both f (some a) (some b) = some (f a b)
+both f (some a) none = none
+both f none b = none
+
+abbrev pub pair : {A B : Type 0} → A → B → A × B
+pair a b = (a, b)
+
+-- the one part, and the other after it
+abbrev pub _then_ : {A B : Type 0} → Part A → Part B → Part (A × B)
+p then q = record {
+  size = p .size + q .size;
+  Holds = λ v. p .Holds (v .0) × q .Holds (v .1);
+  write = λ v. p .write (v .0) ++ q .write (v .1);
+  read = λ b. both pair (p .read (take (p .size) b)) (q .read (drop (p .size) b));
+}
+
+unfoldable pub writeAll : {A : Type 0} → Part A → List A → List ℕ
+writeAll p [] = []
+writeAll p (x ∷ xs) = p .write x ++ writeAll p xs
+
+unfoldable pub readAll : {A : Type 0} → Part A → ℕ → List ℕ → Option (List A)
+readAll p zero b = some []
+readAll p (suc n) b = both _∷_ (p .read (take (p .size) b)) (readAll p n (drop (p .size) b))
+
+-- the part n times, one after another
+abbrev pub _times_ : {A : Type 0} → ℕ → Part A → Part (List A)
+n times p = record {
+  size = n * p .size;
+  Holds = λ xs. (length xs ≡ n) × Every (p .Holds) xs;
+  write = writeAll p;
+  read = readAll p n;
+}
+
+abbrev pub mapped : {A B : Type 0} → (A → B) → Option A → Option B
+mapped f none = none
+mapped f (some a) = some (f a)
+
+-- the part with its value seen as another, such as a record of named fields
+abbrev pub seen : {A B : Type 0} → (A → B) → (B → A) → Part A → Part B
+seen to from p = record { size = p .size; Holds = λ v. p .Holds (from v); write = λ v. p .write (from v); read = λ b. mapped to (p .read b) }
+
+-- the second part stands at the first one's size; written into a room one after another, the parts are the whole; and a whole is
+-- read by its parts. Proved as `then-at` in proofs/Offsets.antt
+pub record ThenAt {A B : Type 0} (p : Part A) (q : Part B) : Type 0 where
+  pub first : (v : A × B) → (p then q) .Holds v → take (p .size) ((p then q) .write v) ≡ p .write (v .0)
+  pub second : (v : A × B) → (p then q) .Holds v → drop (p .size) ((p then q) .write v) ≡ q .write (v .1)
+  pub filled :
+      (room : List ℕ) (at : ℕ) (v : A × B)
+      → (p then q) .Holds v
+      → at + p .size ≤ length room
+      → patch (patch room at (p .write (v .0))) (at + p .size) (q .write (v .1)) ≡ patch room at ((p then q) .write v)
+  pub told :
+      (b : List ℕ) (at : ℕ)
+      → at + (p then q) .size ≤ length b
+      → readAt (p then q) b at ≡ both pair (readAt p b at) (readAt q b (at + p .size))
+
+-- element k stands at k times the size; a room filled with the first k elements and then with one more is filled with k + 1; and a
+-- whole of n is read element by element. Proved as `times-at` in proofs/Offsets.antt
+pub record TimesAt {A : Type 0} (p : Part A) : Type 0 where
+  pub element :
+      (n : ℕ) (xs : List A)
+      → (n times p) .Holds xs
+      → (k : ℕ) (z : A)
+      → k < n
+      → take (p .size) (drop (k * p .size) ((n times p) .write xs)) ≡ p .write (getD xs k z)
+  pub none : (room : List ℕ) (at : ℕ) → patch room at ((0 times p) .write []) ≡ room
+  pub more :
+      (room : List ℕ) (at k : ℕ) (f : ℕ → A)
+      → ((j : ℕ) → j < k → p .Holds (f j))
+      → at + k * p .size ≤ length room
+      → patch (patch room at ((k times p) .write (build f k))) (at + k * p .size) (p .write (f k))
+      ≡ patch room at (((k + 1) times p) .write (build f (k + 1)))
+  pub told :
+      (b : List ℕ) (at n : ℕ) (f : ℕ → A)
+      → at + (n times p) .size ≤ length b
+      → ((k : ℕ) → k < n → readAt p b (at + k * p .size) ≡ some (f k))
+      → readAt (n times p) b at ≡ some (build f n)
