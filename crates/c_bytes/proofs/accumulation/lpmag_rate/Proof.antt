@@ -1,0 +1,19 @@
+-- `c_bytes::accumulation::lpmag_rate` meets its contract.
+-- Assumes nothing.
+use denote.Ref.{now}
+use Rattle.c_bytes.proofs.Counts.{count-told}
+use borrow.Author.Needs.{needs}
+use Rattle.c_bytes.proofs.accumulation.lpmag_rate.Statement.{statement}
+use Rattle.c_bytes.proofs.accumulation.lpmag_rate.Tie as tie
+
+rate-requires : tie.Need-rate-requires
+rate-requires c κs = search needs
+
+hand-out-requires : tie.Need-hand-out-requires
+hand-out-requires c κs = search needs
+
+returns : tie.Need-returns
+returns c = let a = c .before .before .before .before .before .args in count-told _ (c .before .before .before .rate .result) (now (a .low)) (now (a .high)) _ _ _ (c .before .before .before .rate .ensures) (c .hand-out .ensures)
+
+pub lpmag-rate-spec : {M : Type 1} → statement M
+lpmag-rate-spec = tie.close (tie.spec rate-requires hand-out-requires returns)
