@@ -8,7 +8,7 @@ use lib.Dec.{eqb}
 use lib.IntN.{ℤ}
 use lib.ListN.{length}
 use borrow.Author.Tests.{eq-eqb, ne-eqb, eqb-true, eqb-false}
-use Rattle.tables.proofs.Conds.{two}
+use Rattle.tables.proofs.Conds.{cond-of, two}
 use Rattle.state.proofs.Numbers.{accepted-is, refused-is}
 use Rattle.state.specs.List.{listed}
 use Rattle.state.specs.Deciding.{Input, numberOf, decidedOf, acceptedAt, answerNumber}
@@ -47,7 +47,7 @@ room-size : (st room : List ℕ) (size : ℕ) → readable st size room ≡ true
 unfolding readable
 room-size st room size e = eqb-true (length room) size (two (isState st) _ e .1)
 
-is-written : (size : ℕ) (bytes room : List ℕ) → length room ≡ size → written size bytes room ≡ bytes
+pub is-written : (size : ℕ) (bytes room : List ℕ) → length room ≡ size → written size bytes room ≡ bytes
 is-written size bytes room e = rw (eq-eqb (length room) size e)
 
 module _ (st : List ℕ) where
@@ -58,8 +58,8 @@ module _ (st : List ℕ) where
   finish-unread b closed e = record { number = rw e; state = refl; buffers-after = rw e; closed-after = refl }
 
   module _ (oc fc oc′ fc′ : List ℕ) (os fs os′ fs′ : List ℤ) where
-    module _ (r report : List ℕ) (x : Stepped) (is : StepIs (stateOf st) oc fc os fs r x oc′ fc′ os′ fs′) (n : ℕ) (st′ report′ : List ℕ) (h : Handed x st report n st′ report′)
-        (ok : readable st reportSize report ≡ true) where
+    module _ (r report : List ℕ) (x : Stepped) (is : StepIs (stateOf st) oc fc os fs r x oc′ fc′ os′ fs′) (n : ℕ)
+        (st′ report′ : List ℕ) (h : Handed x st report n st′ report′) (ok : readable st reportSize report ≡ true) where
       abbrev i : Input
       i = input (stateOf st) (buffers oc fc os fs) r
 
@@ -75,7 +75,8 @@ module _ (st : List ℕ) where
 
           go : (t : Bool) → eqb (numberOf i) 0 ≡ t → st′ ≡ cond (eqb n 0) (stateBytes (decidedOf i .stepped .state)) st
           go true t =
-              let a : stateHanded (decidedOf i .stepped .answer) (decidedOf i .stepped .state) st ≡ written stateSize (stateBytes (decidedOf i .stepped .state)) st = rw (accepted-is i (eqb-true (numberOf i) 0 t)) in
+              let a : stateHanded (decidedOf i .stepped .answer) (decidedOf i .stepped .state) st
+              ≡ written stateSize (stateBytes (decidedOf i .stepped .state)) st = rw (accepted-is i (eqb-true (numberOf i) 0 t)) in
               rw (number-so, t) (q ∙ a ∙ is-written stateSize (stateBytes (decidedOf i .stepped .state)) st (state-size st report reportSize ok))
           go false t =
               let a : stateHanded (decidedOf i .stepped .answer) (decidedOf i .stepped .state) st ≡ st = rw (refused-is i (eqb-false (numberOf i) 0 t)) in
@@ -89,15 +90,16 @@ module _ (st : List ℕ) where
         report-after = h .report-written ∙ ap (λ (y : Stepped). reportWritten y report) (is .result) ∙ rw ok;
       }
 
-    module _ (closed : List ℕ) (x : Finished) (is : FinishIs (stateOf st) oc fc os fs x oc′ fc′ os′ fs′) (n : ℕ) (st′ closed′ : List ℕ) (h : HandedClosed x st closed n st′ closed′)
-        (ok : readable st closedSize closed ≡ true) where
+    module _ (closed : List ℕ) (x : Finished) (is : FinishIs (stateOf st) oc fc os fs x oc′ fc′ os′ fs′) (n : ℕ)
+        (st′ closed′ : List ℕ) (h : HandedClosed x st closed n st′ closed′) (ok : readable st closedSize closed ≡ true) where
       abbrev e : Ended
       e = endedOf (stateOf st) (sized (buffers oc fc os fs))
 
       -- what is handed over is handed over where the number is 0
       handed-so : (bytes room : List ℕ) → endHanded (x .ending) bytes room ≡ cond (eqb n 0) bytes room
       unfolding endedOf
-      handed-so bytes room = ap (λ (y : Finished). endHanded (y .ending) bytes room) (is .result) ∙ go (sized (buffers oc fc os fs) && listed (stateOf st)) refl
+      handed-so bytes room =
+          ap (λ (y : Finished). endHanded (y .ending) bytes room) (is .result) ∙ go (sized (buffers oc fc os fs) && listed (stateOf st)) refl
         where
           go : (t : Bool) → (sized (buffers oc fc os fs) && listed (stateOf st)) ≡ t
               → endHanded (cond t (ending (stateOf st)) (unended (stateOf st)) .finished .ending) bytes room ≡ cond (eqb n 0) bytes room
@@ -107,9 +109,18 @@ module _ (st : List ℕ) where
       pub finish-given : FinishGiven st (buffers oc fc os fs) closed n st′ (buffers oc′ fc′ os′ fs′) closed′
       finish-given = record {
         number = h .number ∙ is .number ∙ rw ok;
-        state = h .state-written ∙ handed-so _ st ∙ ap (λ (z : List ℕ). cond (eqb n 0) z st) (is-written stateSize _ st (state-size st closed closedSize ok) ∙ ap (λ (y : Finished). stateBytes (y .state)) (is .result));
+        state =
+            h .state-written
+            ∙ handed-so _ st
+            ∙ ap (λ (z : List ℕ). cond (eqb n 0) z st)
+            (is-written stateSize _ st (state-size st closed closedSize ok) ∙ ap (λ (y : Finished). stateBytes (y .state)) (is .result));
         buffers-after = rw (ok, is .cells-open, is .cells-finished, is .samples-open, is .samples-finished);
-        closed-after = h .closed-written ∙ handed-so _ closed ∙ ap (λ (z : List ℕ). cond (eqb n 0) z closed) (is-written closedSize _ closed (room-size st closed closedSize ok) ∙ ap (λ (y : Finished). closedBytes (y .major) (y .accumulation)) (is .result));
+        closed-after =
+            h .closed-written
+            ∙ handed-so _ closed
+            ∙ ap (λ (z : List ℕ). cond (eqb n 0) z closed)
+            (is-written closedSize _ closed (room-size st closed closedSize ok)
+            ∙ ap (λ (y : Finished). closedBytes (y .major) (y .accumulation)) (is .result));
       }
 
 -- what is handed over of each answer
@@ -119,15 +130,11 @@ module _ (x : Stepped) (state report : List ℕ) where
   hands-refused n e = record {
     number = rw e;
     state-written = rw e;
-    report-written = rw e (same (eqb (length report) reportSize));
+    report-written = rw e (cond-of (λ (z : List ℕ). report) (eqb (length report) reportSize) report report);
   }
-    where
-      same : (t : Bool) → report ≡ cond t report report
-      same true = refl
-      same false = refl
 
-  pub hands-accepted : (t : Taken) → x .answer ≡ Accepted t → (state′ report′ : List ℕ) → state′ ≡ written stateSize (stateBytes (x .state)) state → report′ ≡ reportWritten x report
-      → Handed x state report 0 state′ report′
+  pub hands-accepted : (t : Taken) → x .answer ≡ Accepted t → (state′ report′ : List ℕ)
+      → state′ ≡ written stateSize (stateBytes (x .state)) state → report′ ≡ reportWritten x report → Handed x state report 0 state′ report′
   unfolding answerNumber
   hands-accepted t e state′ report′ p q = record { number = rw e; state-written = rw e p; report-written = q }
 
@@ -136,7 +143,8 @@ module _ (x : Finished) (state closed : List ℕ) where
   unfolding endingNumber
   hands-unended n e = record { number = rw e; state-written = rw e; closed-written = rw e }
 
-  pub hands-ended : x .ending ≡ end.Done → (state′ closed′ : List ℕ) → state′ ≡ written stateSize (stateBytes (x .state)) state → closed′ ≡ written closedSize (closedBytes (x .major) (x .accumulation)) closed
+  pub hands-ended : x .ending ≡ end.Done → (state′ closed′ : List ℕ)
+      → state′ ≡ written stateSize (stateBytes (x .state)) state → closed′ ≡ written closedSize (closedBytes (x .major) (x .accumulation)) closed
       → HandedClosed x state closed 0 state′ closed′
   unfolding endingNumber
   hands-ended e state′ closed′ p q = record { number = rw e; state-written = rw e p; closed-written = rw e q }

@@ -1,28 +1,22 @@
 -- What the exported questions about a finished major frame answer.
 -- Assumes nothing.
 use Prim.Native.Nat.{ℕ}
-use mathlib.Core.Bool.{Bool, true, cond, _&&_}
+use mathlib.Core.Bool.{Bool, _&&_}
 use mathlib.Core.List.{List}
 use mathlib.Core.Path.{_≡_}
 use lib.Dec.{eqb, ltb}
 use lib.Ieee.{Float}
 use lib.IntN.{ℤ}
 use lib.ListN.{length, getD}
-use Rattle.cells.specs.Words.{said}
 use Rattle.mag.specs.Field.{FieldIs}
 use Rattle.encoding.specs.States.{majorSize, majorOf}
 use Rattle.majors.specs.Questions.{stored, hasStored, hasNominal, magHeld, slotHeld, fieldAt}
 use Rattle.state.specs.Major.{slots}
-use Rattle.c_bytes.specs.Electrons.{wordsNumber}
+use Rattle.c_answers.specs.Answers.{ValueGiven}
 
 -- bytes of a major frame, and what is asked for has a place
 abbrev pub framed : List ℕ → Bool → Bool
 framed major place = eqb (length major) majorSize && place
-
--- a value where it has a place and is held; else the number of 01's words, and the number lent as found
-pub record ValueGiven {ℓ} {A : Type ℓ} (place held : Bool) (value old : A) (n : ℕ) (new : A) : Type ℓ where
-  pub number : n ≡ wordsNumber (said place held true)
-  pub written : new ≡ cond (place && held) value old
 
 abbrev pub WordGiven : List ℕ → ℕ → ℕ → ℕ → ℕ → Type 0
 WordGiven major s = ValueGiven (framed major (ltb s slots)) (slotHeld (majorOf major) s) (getD (majorOf major .words) s 0)
@@ -32,5 +26,6 @@ SampleGiven major samples s k = ValueGiven (framed major (hasStored samples s k)
 
 -- and a field that is given is exact
 pub record NominalGiven (major : List ℕ) (samples : List ℤ) (s k : ℕ) (old : Float) (n : ℕ) (new : Float) : Type 0 where
-  pub given : ValueGiven (framed major (hasNominal (majorOf major) samples s k)) (magHeld (majorOf major) s) (fieldAt (majorOf major) samples s k) old n new
+  pub given :
+      ValueGiven (framed major (hasNominal (majorOf major) samples s k)) (magHeld (majorOf major) s) (fieldAt (majorOf major) samples s k) old n new
   pub exact : n ≡ 0 → FieldIs (stored samples s k) (getD (majorOf major .ranges) s 0) new

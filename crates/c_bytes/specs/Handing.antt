@@ -3,9 +3,6 @@
 use Prim.Native.Nat.{ℕ}
 use mathlib.Core.List.{List}
 use mathlib.Core.Path.{_≡_}
-use Rattle.electrons.specs.Questions.{countSaid}
-use Rattle.electrons.specs.declared.questions.Count.{Count}
-use Rattle.electrons.specs.declared.questions.Count.the-variants.{Within, ScaleUnknown, Absent, NoSuchPlace}
 use Rattle.state.specs.Deciding.{answerNumber}
 use Rattle.state.specs.Ending.{endingNumber}
 use Rattle.state.specs.declared.State.{State}
@@ -17,24 +14,6 @@ use Rattle.state.specs.declared.ending.Ending.the-variants as ending
 use Rattle.state.specs.declared.ending.Finished.{Finished}
 use Rattle.encoding.specs.States.{stateSize, stateBytes, written}
 use Rattle.encoding.specs.Reports.{closedSize, closedBytes, reportWritten}
-use Rattle.c_bytes.specs.Electrons.{wordsNumber}
-
-abbrev pub lowOf : Count → ℕ → ℕ
-lowOf (Within r) low = r .low
-lowOf ScaleUnknown low = low
-lowOf Absent low = low
-lowOf NoSuchPlace low = low
-
-abbrev pub highOf : Count → ℕ → ℕ
-highOf (Within r) high = r .high
-highOf ScaleUnknown high = high
-highOf Absent high = high
-highOf NoSuchPlace high = high
-
-pub record CountGiven (x : Count) (low high n low′ high′ : ℕ) : Type 0 where
-  pub number : n ≡ wordsNumber (countSaid x)
-  pub low-written : low′ ≡ lowOf x low
-  pub high-written : high′ ≡ highOf x high
 
 -- the number of a step's answer; the state and the report of an accepted record, each where its room is of its size
 abbrev pub stateHanded : Answer → State → List ℕ → List ℕ

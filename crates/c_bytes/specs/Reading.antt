@@ -29,4 +29,6 @@ pub record FinishGiven (st : List ℕ) (b : Buffers) (closed : List ℕ) (n : �
   pub number : n ≡ cond (readable st closedSize closed) (endNumber (stateOf st) (sized b)) 1
   pub state : st′ ≡ cond (eqb n 0) (stateBytes (endedOf (stateOf st) (sized b) .finished .state)) st
   pub buffers-after : b′ ≡ cond (readable st closedSize closed) (ended (stateOf st) b) b
-  pub closed-after : closed′ ≡ cond (eqb n 0) (closedBytes (endedOf (stateOf st) (sized b) .finished .major) (endedOf (stateOf st) (sized b) .finished .accumulation)) closed
+  pub closed-after :
+      closed′
+      ≡ cond (eqb n 0) (closedBytes (endedOf (stateOf st) (sized b) .finished .major) (endedOf (stateOf st) (sized b) .finished .accumulation)) closed

@@ -1,7 +1,7 @@
 // Questions about a finished major frame, for C.
 ghost use Rattle.c_bytes.specs.Frames.{WordGiven, SampleGiven, NominalGiven};
-use crate::ABSENT;
-use crate::NOWHERE;
+use c_answers::ABSENT;
+use c_answers::NOWHERE;
 use encoding::MAJOR;
 use majors::Nominal;
 use majors::Sample;
@@ -33,7 +33,8 @@ pub extern "C" fn lpmag_major_sample(
     number: usize,
     sample: &mut i16,
 ) -> u8
-    ensures { λ n. ⌜ SampleGiven (now (major .entry)) (now (samples .entry)) slot number (now (sample .entry)) n (now (sample .exit)) ⌝ }
+    ensures { λ n. ⌜ SampleGiven (now (major .entry)) (now (samples .entry)) slot number
+        (now (sample .entry)) n (now (sample .exit)) ⌝ }
 {
     if major.len() != MAJOR {
         return NOWHERE;
@@ -57,7 +58,8 @@ pub extern "C" fn lpmag_major_field(
     number: usize,
     field: &mut f32,
 ) -> u8
-    ensures { λ n. ⌜ NominalGiven (now (major .entry)) (now (samples .entry)) slot number (now (field .entry)) n (now (field .exit)) ⌝ }
+    ensures { λ n. ⌜ NominalGiven (now (major .entry)) (now (samples .entry)) slot number
+        (now (field .entry)) n (now (field .exit)) ⌝ }
 {
     if major.len() != MAJOR {
         return NOWHERE;

@@ -34,7 +34,11 @@ pub extern "C" fn lpmag_step(
     r: &[u8],
     report: &mut [u8],
 ) -> u8
-    ensures { λ n. ⌜ StepGiven (now (state .entry)) (buffers (now («open_cells» .entry)) (now («finished_cells» .entry)) (now («open_samples» .entry)) (now («finished_samples» .entry))) (now (r .entry)) (now (report .entry)) n (now (state .exit)) (buffers (now («open_cells» .exit)) (now («finished_cells» .exit)) (now («open_samples» .exit)) (now («finished_samples» .exit))) (now (report .exit)) ⌝ }
+    ensures { λ n. ⌜ StepGiven (now (state .entry))
+        (buffers (now («open_cells» .entry)) (now («finished_cells» .entry)) (now («open_samples» .entry)) (now («finished_samples» .entry)))
+        (now (r .entry)) (now (report .entry)) n (now (state .exit))
+        (buffers (now («open_cells» .exit)) (now («finished_cells» .exit)) (now («open_samples» .exit)) (now («finished_samples» .exit)))
+        (now (report .exit)) ⌝ }
 {
     if !encoding::is_state(state) {
         return 1;
@@ -78,7 +82,11 @@ pub extern "C" fn lpmag_finish(
     finished_samples: &mut [i16],
     closed: &mut [u8],
 ) -> u8
-    ensures { λ n. ⌜ FinishGiven (now (state .entry)) (buffers (now («open_cells» .entry)) (now («finished_cells» .entry)) (now («open_samples» .entry)) (now («finished_samples» .entry))) (now (closed .entry)) n (now (state .exit)) (buffers (now («open_cells» .exit)) (now («finished_cells» .exit)) (now («open_samples» .exit)) (now («finished_samples» .exit))) (now (closed .exit)) ⌝ }
+    ensures { λ n. ⌜ FinishGiven (now (state .entry))
+        (buffers (now («open_cells» .entry)) (now («finished_cells» .entry)) (now («open_samples» .entry)) (now («finished_samples» .entry)))
+        (now (closed .entry)) n (now (state .exit))
+        (buffers (now («open_cells» .exit)) (now («finished_cells» .exit)) (now («open_samples» .exit)) (now («finished_samples» .exit)))
+        (now (closed .exit)) ⌝ }
 {
     if !encoding::is_state(state) {
         return 1;

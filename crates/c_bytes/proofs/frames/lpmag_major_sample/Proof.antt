@@ -13,7 +13,11 @@ use Rattle.c_bytes.proofs.frames.lpmag_major_sample.Statement.{statemen
 use Rattle.c_bytes.proofs.frames.lpmag_major_sample.Tie as tie
 
 returns : tie.Need-returns
-returns c = let a = c .before .before .args in no-frame (now (a .major)) (hasStored (now (a .samples)) (a .slot) (a .number)) (magHeld (majorOf (now (a .major))) (a .slot)) (stored (now (a .samples)) (a .slot) (a .number)) (now (a .sample)) (c .if1 .taken)
+returns c =
+    let a = c .before .before .args in
+    let s = now (a .samples) in
+    let held = magHeld (majorOf (now (a .major))) (a .slot) in
+    no-frame (now (a .major)) (hasStored s (a .slot) (a .number)) held (stored s (a .slot) (a .number)) (now (a .sample)) (c .if1 .taken)
 
 major-of-requires : tie.Need-major-of-requires
 major-of-requires c κs = search needs
@@ -35,13 +39,27 @@ returns-2 c =
     let z = c .before .answer .given .0 .0 in
     let f : SFits w16 z = search needs in
     let e : toZ w16 (ofZ w16 z) ≡ z = toZ-ofZ w16 z f in
-    rw e (let a = c .before .before .before .before .before .before .before .args in sample-told (now (a .major)) (c .before .before .before .before .before .if1 .left) (now (a .samples)) (a .slot) (a .number) (now (a .sample)) _ _ (rw (c .before .before .before .before .major-of .ensures) at (c .before .before .before .sample-of .ensures)) (c .before .answer .given .1))
+    let k = c .before .before .before in
+    let m = k .before in
+    let a = m .before .before .before .args in
+    rw e (sample-told (now (a .major)) (m .before .if1 .left) (now (a .samples)) (a .slot) (a .number) (now (a .sample)) _ _
+    (rw (m .major-of .ensures) at (k .sample-of .ensures)) (c .before .answer .given .1))
 
 returns-3 : tie.Need-returns-3
-returns-3 c = let a = c .before .before .before .before .before .before .args in sample-told (now (a .major)) (c .before .before .before .before .if1 .left) (now (a .samples)) (a .slot) (a .number) (now (a .sample)) _ _ (rw (c .before .before .before .major-of .ensures) at (c .before .before .sample-of .ensures)) (c .enum-told .given .1)
+returns-3 c =
+    let k = c .before .before in
+    let m = k .before in
+    let a = m .before .before .before .args in
+    sample-told (now (a .major)) (m .before .if1 .left) (now (a .samples)) (a .slot) (a .number) (now (a .sample)) _ _
+    (rw (m .major-of .ensures) at (k .sample-of .ensures)) (c .enum-told .given .1)
 
 returns-4 : tie.Need-returns-4
-returns-4 c = let a = c .before .before .before .before .before .before .args in sample-told (now (a .major)) (c .before .before .before .before .if1 .left) (now (a .samples)) (a .slot) (a .number) (now (a .sample)) _ _ (rw (c .before .before .before .major-of .ensures) at (c .before .before .sample-of .ensures)) (c .enum-told2 .given .1)
+returns-4 c =
+    let k = c .before .before in
+    let m = k .before in
+    let a = m .before .before .before .args in
+    sample-told (now (a .major)) (m .before .if1 .left) (now (a .samples)) (a .slot) (a .number) (now (a .sample)) _ _
+    (rw (m .major-of .ensures) at (k .sample-of .ensures)) (c .enum-told2 .given .1)
 
 pub lpmag-major-sample-spec : {M : Type 1} → statement M
 lpmag-major-sample-spec =

@@ -19,7 +19,9 @@ put-report-requires : tie.Need-put-report-requires
 put-report-requires c κs = search needs
 
 returns : tie.Need-returns
-returns c = let a = c .before .before .before .before .before .args in hands-refused (a .stepped) (now (a .state)) (now (a .report)) _ (c .before .answer .given .1)
+returns c =
+    let a = c .before .before .before .before .before .args in
+    hands-refused (a .stepped) (now (a .state)) (now (a .report)) _ (c .before .answer .given .1)
 
 same-length : tie.Need-same-length
 same-length c = search needs
@@ -28,7 +30,12 @@ same-length-2 : tie.Need-same-length-2
 same-length-2 c = search needs
 
 returns-2 : tie.Need-returns-2
-returns-2 c = let a = c .before .before .before .before .before .before .before .before .before .before .before .before .args in hands-accepted (a .stepped) (now (a .state)) (now (a .report)) _ (c .before .before .before .before .before .before .before .before .enum-told .given .1) _ _ (c .before .before .before .before .before .before .put-state .ensures) (c .before .before .put-report .ensures)
+returns-2 c =
+    let p = c .before .before in
+    let q = p .before .before .before .before in
+    let t = q .before .before in
+    let a = t .before .before .before .before .args in
+    hands-accepted (a .stepped) (now (a .state)) (now (a .report)) _ (t .enum-told .given .1) _ _ (q .put-state .ensures) (p .put-report .ensures)
 
 pub hand-over-spec : {M : Type 1} → statement M
 hand-over-spec =

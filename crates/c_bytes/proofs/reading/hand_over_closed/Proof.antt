@@ -19,7 +19,9 @@ put-closed-requires : tie.Need-put-closed-requires
 put-closed-requires c κs = search needs
 
 returns : tie.Need-returns
-returns c = let a = c .before .before .before .before .before .args in hands-unended (a .finished) (now (a .state)) (now (a .closed)) _ (c .before .ending .given .1)
+returns c =
+    let a = c .before .before .before .before .before .args in
+    hands-unended (a .finished) (now (a .state)) (now (a .closed)) _ (c .before .ending .given .1)
 
 same-length : tie.Need-same-length
 same-length c = search needs
@@ -28,7 +30,12 @@ same-length-2 : tie.Need-same-length-2
 same-length-2 c = search needs
 
 returns-2 : tie.Need-returns-2
-returns-2 c = let a = c .before .before .before .before .before .before .before .before .before .before .before .before .args in hands-ended (a .finished) (now (a .state)) (now (a .closed)) (c .before .before .before .before .before .before .before .before .enum-told .given .1) _ _ (c .before .before .before .before .before .before .put-state .ensures) (c .before .before .put-closed .ensures)
+returns-2 c =
+    let p = c .before .before in
+    let q = p .before .before .before .before in
+    let t = q .before .before in
+    let a = t .before .before .before .before .args in
+    hands-ended (a .finished) (now (a .state)) (now (a .closed)) (t .enum-told .given .1) _ _ (q .put-state .ensures) (p .put-closed .ensures)
 
 pub hand-over-closed-spec : {M : Type 1} → statement M
 hand-over-closed-spec =

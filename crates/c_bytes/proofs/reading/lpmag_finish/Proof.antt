@@ -16,13 +16,23 @@ same-length : tie.Need-same-length
 same-length c = search needs
 
 returns : tie.Need-returns
-returns c = let a = c .before .before .before .before .before .before .before .args in finish-unread (now (a .state)) (buffers (now (a .open-cells)) (now (a .finished-cells)) (now (a .open-samples)) (now (a .finished-samples))) (now (a .closed)) (no-state (now (a .state)) (now (a .closed)) closedSize (fails (c .before .is-state .ensures) (c .if1 .taken)))
+returns c =
+    let i = c .before in
+    let a = i .before .before .before .before .before .before .args in
+    let b = buffers (now (a .open-cells)) (now (a .finished-cells)) (now (a .open-samples)) (now (a .finished-samples)) in
+    finish-unread (now (a .state)) b (now (a .closed))
+    (no-state (now (a .state)) (now (a .closed)) closedSize (fails (i .is-state .ensures) (c .if1 .taken)))
 
 same-length-2 : tie.Need-same-length-2
 same-length-2 c = search needs
 
 returns-2 : tie.Need-returns-2
-returns-2 c = let a = c .before .before .before .before .before .before .before .before .args in finish-unread (now (a .state)) (buffers (now (a .open-cells)) (now (a .finished-cells)) (now (a .open-samples)) (now (a .finished-samples))) (now (a .closed)) (no-room (now (a .state)) (now (a .closed)) closedSize (held (c .before .before .is-state .ensures) (c .before .if1 .left)) (c .if2 .taken))
+returns-2 c =
+    let i = c .before .before in
+    let a = i .before .before .before .before .before .before .args in
+    let b = buffers (now (a .open-cells)) (now (a .finished-cells)) (now (a .open-samples)) (now (a .finished-samples)) in
+    finish-unread (now (a .state)) b (now (a .closed))
+    (no-room (now (a .state)) (now (a .closed)) closedSize (held (i .is-state .ensures) (c .before .if1 .left)) (c .if2 .taken))
 
 state-of-requires : tie.Need-state-of-requires
 state-of-requires c κs = search needs
@@ -53,9 +63,15 @@ same-length-8 c = search needs
 
 returns-3 : tie.Need-returns-3
 returns-3 c =
-    let a = c .before .before .before .before .before .before .before .before .before .before .before .before .before .before .before .before .before .before .before .before .before .before .before .before .before .before .before .before .args in
-    finish-given (now (a .state)) (now (a .open-cells)) (now (a .finished-cells)) _ _ (now (a .open-samples)) (now (a .finished-samples)) _ _ (now (a .closed)) _ (rw (c .before .before .before .before .before .before .before .before .before .before .before .before .before .before .before .before .before .before .state-of .ensures) at (c .before .before .before .before .before .before .before .before .before .before .before .before .before .finish .ensures)) _ _ _ (c .before .before .before .before .hand-over-closed .ensures)
-    (both-fit (now (a .state)) (now (a .closed)) closedSize (held (c .before .before .before .before .before .before .before .before .before .before .before .before .before .before .before .before .before .before .before .before .before .before .is-state .ensures) (c .before .before .before .before .before .before .before .before .before .before .before .before .before .before .before .before .before .before .before .before .before .if1 .left)) (c .before .before .before .before .before .before .before .before .before .before .before .before .before .before .before .before .before .before .before .before .if2 .left))
+    let h = c .before .before .before .before in
+    let s = h .before .before .before .before .before .before .before .before .before in
+    let o = s .before .before .before .before .before in
+    let f = o .before .before in
+    let i = f .before .before in
+    let a = i .before .before .before .before .before .before .args in
+    finish-given (now (a .state)) (now (a .open-cells)) (now (a .finished-cells)) _ _ (now (a .open-samples)) (now (a .finished-samples)) _ _
+    (now (a .closed)) _ (rw (o .state-of .ensures) at (s .finish .ensures)) _ _ _ (h .hand-over-closed .ensures)
+    (both-fit (now (a .state)) (now (a .closed)) closedSize (held (i .is-state .ensures) (f .before .if1 .left)) (f .if2 .left))
 
 pub lpmag-finish-spec : {M : Type 1} → statement M
 lpmag-finish-spec =

@@ -1,17 +1,21 @@
 -- `c_bytes::records::lpmag_fields` meets its contract.
 -- Assumes nothing.
-use mathlib.Core.Path.{sym, ap}
+use mathlib.Core.Path.{sym, ap, _∙_}
 use denote.Ref.{now}
 use Rattle.record.specs.Contents.{recordOf}
 use Rattle.record.proofs.Told.{fields-told, number-told}
 use Rattle.encoding.specs.Fields.{fieldsSize, fieldBytes}
-use Rattle.c_bytes.proofs.Outcomes.{wrong-room, refused, written-in}
+use Rattle.c_answers.proofs.Outcomes.{wrong-room, refused, given-in}
+use Rattle.c_bytes.proofs.Hands.{is-written}
 use borrow.Author.Needs.{needs}
 use Rattle.c_bytes.proofs.records.lpmag_fields.Statement.{statement}
 use Rattle.c_bytes.proofs.records.lpmag_fields.Tie as tie
 
 returns : tie.Need-returns
-returns c = let a = c .before .before .before .args in let r = now (a .r) in wrong-room fieldsSize (fieldBytes (recordOf r)) r (now (a .room)) (c .if1 .taken)
+returns c =
+    let a = c .before .before .before .args in
+    let r = now (a .r) in
+    wrong-room fieldsSize (fieldBytes (recordOf r)) r (now (a .room)) (c .if1 .taken)
 
 fields-requires : tie.Need-fields-requires
 fields-requires c κs = search needs
@@ -30,19 +34,23 @@ same-length c = search needs
 
 returns-2 : tie.Need-returns-2
 returns-2 c =
-    let a = c .before .before .before .before .before .before .before .before .before .before .before .args in
+    let p = c .before .before in
+    let m = p .before .before .before in
+    let k = m .before .before in
+    let h = k .before .if1 .left in
+    let a = k .before .before .before .before .args in
     let r = now (a .r) in
-    let k = c .before .before .before .before .before .before .before .fields in
-    let t = fields-told r (k .result) (k .ensures) _ (c .before .before .before .before .before .contents .given .1) in
-    written-in fieldsSize (fieldBytes (recordOf r)) r (now (a .room)) (c .before .before .before .before .before .before .before .before .if1 .left) (sym (t .0)) _ _ (ap fieldBytes (t .1)) (c .before .before .put-fields .ensures)
+    let t = fields-told r (k .fields .result) (k .fields .ensures) _ (m .contents .given .1) in
+    given-in fieldsSize (fieldBytes (recordOf r)) r (now (a .room)) h (sym (t .0)) _
+    (p .put-fields .ensures ∙ is-written fieldsSize _ (now (a .room)) h ∙ ap fieldBytes (t .1))
 
 returns-3 : tie.Need-returns-3
 returns-3 c =
-    let a = c .before .before .before .before .before .before .before .args in
+    let k = c .before .before .before in
+    let a = k .before .before .before .before .args in
     let r = now (a .r) in
-    let k = c .before .before .before .fields in
-    let t = number-told r (k .result) (k .ensures) _ (c .before .contents2 .given .1) in
-    refused fieldsSize (fieldBytes (recordOf r)) r (now (a .room)) (c .before .before .before .before .if1 .left) _ (t .0) (t .1)
+    let t = number-told r (k .fields .result) (k .fields .ensures) _ (c .before .contents2 .given .1) in
+    refused fieldsSize (fieldBytes (recordOf r)) r (now (a .room)) (k .before .if1 .left) _ (t .0) (t .1)
 
 pub lpmag-fields-spec : {M : Type 1} → statement M
 lpmag-fields-spec =
