@@ -1,4 +1,4 @@
-# Sourced by the scripts beside it and by bench/run: where the kit's compiler,
+# Sourced by the scripts beside it, by those of bench and examples and by liblpmag: where the kit's compiler,
 # linker and emulator are, which stand beside the real file of `rt`, and how C is
 # compiled.
 
