@@ -1,6 +1,6 @@
-# Sourced by the scripts beside it and by bench/run: where the kit's compiler,
-# linker and emulator are, which stand beside the real file of `rt`, and how C is
-# compiled.
+# Sourced by the scripts beside it, by those of bench/ and examples/ and by
+# liblpmag: where the kit's compiler, linker, archiver and emulator are, which stand
+# beside the real file of `rt`, and how C is compiled.
 
 if ! command -v rt >/dev/null; then
     echo "compare: rt was not found; install Rattle's kit and put rt on the PATH" >&2

@@ -1,6 +1,6 @@
 /* Walks a merged file record by record and prints some of what the reader hands out:
  * how the library is used from C, over lpmag.h alone.
- *   cc -Iinclude examples/walk.c target/staticlib/libcapi.a -o walk
+ *   cc -Iinclude examples/walk.c target/staticlib/liblpmag.a -o walk
  *   ./walk FILE [N]
  * It prints the N-th major frame and the N-th accumulation handed out, the first if no
  * N is given, and last how many records were refused, and by which rule. */

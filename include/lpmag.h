@@ -1,5 +1,5 @@
 /* Lunar Prospector MAG/ER: the functions of the static library that
- * `rt staticlib capi` writes (target/staticlib/libcapi.a, x86-64 Linux).
+ * `./liblpmag` writes (target/staticlib/liblpmag.a, x86-64 Linux).
  *
  * A slice is a pointer and then a number of elements. A pointer may be null
  * only with 0 elements. No function keeps a pointer. A lent buffer is called a

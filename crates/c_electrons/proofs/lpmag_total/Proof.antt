@@ -1,0 +1,22 @@
+-- `c_electrons::lpmag_total` meets its contract.
+-- Assumes nothing.
+use denote.Ref.{now}
+use Rattle.c_electrons.proofs.Questions.{count-told}
+use borrow.Author.Needs.{needs}
+use Rattle.c_electrons.proofs.lpmag_total.Statement.{statement}
+use Rattle.c_electrons.proofs.lpmag_total.Tie as tie
+
+total-requires : tie.Need-total-requires
+total-requires c κs = search needs
+
+hand-out-requires : tie.Need-hand-out-requires
+hand-out-requires c κs = search needs
+
+returns : tie.Need-returns
+returns c =
+    let k = c .before .before .before in
+    let a = k .before .before .args in
+    count-told _ (k .total .result) (now (a .low)) (now (a .high)) _ _ _ (k .total .ensures) (c .hand-out .ensures)
+
+pub lpmag-total-spec : {M : Type 1} → statement M
+lpmag-total-spec = tie.close (tie.spec total-requires hand-out-requires returns)

@@ -1,0 +1,24 @@
+-- What the exported functions of the electrons answer.
+-- Assumes nothing.
+use Prim.Native.Nat.{ℕ}
+use mathlib.Core.Bool.{cond}
+use mathlib.Core.List.{List}
+use mathlib.Core.Path.{_≡_}
+use lib.ListN.{getD}
+use Rattle.cells.specs.Laying.{laidFrame, layable}
+use Rattle.cells.specs.Raw.{holdsCell, isCell}
+use Rattle.electrons.specs.Questions.{Asked, words, gives}
+use Rattle.c_answers.specs.Answers.{nowhere, wordsNumber, ValueGiven, RangeGiven}
+
+-- the frame laid, or "no such place" and the cells as found
+pub record LaidGiven (code : ℕ) (science c : List ℕ) (n : ℕ) (c′ : List ℕ) : Type 0 where
+  pub number : n ≡ cond (layable code science c) 0 nowhere
+  pub written : c′ ≡ cond (layable code science c) (laidFrame code science c) c
+
+-- the byte of a cell, or the number lent as found
+abbrev pub ByteGiven : List ℕ → ℕ → ℕ → ℕ → ℕ → ℕ → Type 0
+ByteGiven c held p = ValueGiven (isCell c held p) (holdsCell held p) (getD c p 0)
+
+-- an answer of the questions: the range, or the number of 01's words
+abbrev pub AskedGiven : Asked → ℕ → ℕ → ℕ → ℕ → ℕ → Type 0
+AskedGiven q = RangeGiven (gives q) (wordsNumber (words q)) (q .range)
