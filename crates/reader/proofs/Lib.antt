@@ -1,4 +1,5 @@
 pub mod Lengths
 pub mod Laid
 pub mod Outcomes
+pub mod Laws
 pub mod Single
