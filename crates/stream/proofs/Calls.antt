@@ -1,8 +1,8 @@
 -- One call: an accepted record moves the accumulation with its cells and the major frame with its samples, each by itself; a
 -- refused one moves nothing.
 -- Assumes nothing.
-use mathlib.Core.Path.{_≡_, refl, ap, subst⁻¹}
-use mathlib.Core.Bool.{Bool, true, false, cond, _&&_}
+use mathlib.Core.Path.{_≡_, refl, sym, ap, subst⁻¹, _∙_}
+use mathlib.Core.Bool.{Bool, true, false, cond}
 use mathlib.Core.List.{List, [], _∷_, _++_}
 use Prim.Native.Nat.{ℕ, _*_, _<_}
 use native.Mathlib.Omega.{arith}
@@ -11,26 +11,31 @@ use lib.ListN.{length, replicate}
 use Rattle.buffers.specs.Laying.{patch}
 use Rattle.record.specs.Layout.{packetBytes, frameCode, magBytes, scienceBytes}
 use Rattle.record.specs.Contents.{recordOf}
+use Rattle.record.specs.Frame.{carriesScience}
+use Rattle.record.specs.declared.frame.Kind.{Kind}
+use Rattle.record.proofs.Types.{science-real}
+use Rattle.clock.specs.Clock.{dated}
 use Rattle.mag.specs.Samples.{samplesSize, range, samples}
 use Rattle.cells.specs.Laying.{cellsSize, laidFrame}
-use Rattle.state.specs.Accumulation.{isOpen, joins, joined, started, passed, unreported, reported, stepAccumulation}
-use Rattle.state.specs.Major.{frameSamples, slotOf, majorOpen, noMajor, continues, into, majorUnreported, majorReported, stays, turns, stepMajor}
-use Rattle.state.specs.Deciding.{numberOf, refusal, acceptedAt, acceptance, decidedOf, answerNumber}
+use Rattle.accumulation.specs.Accumulation.{isOpen, joins, joined, started, passed, unreported, reported}
+use Rattle.accumulation.specs.Accumulation.{passes, extends, renews, stepAccumulation}
+use Rattle.major.specs.Major.{frameSamples, slotOf, majorOpen, noMajor, continues, into, majorUnreported, majorReported, stays, turns, stepMajor}
+use Rattle.state.specs.Deciding.{numberOf, refusal, acceptance, decidedOf, answerNumber}
 use Rattle.state.specs.declared.State.{State}
-use Rattle.state.specs.declared.accumulation.Accumulation.{Accumulation}
-use Rattle.state.specs.declared.accumulation.AccumulationReport.{AccumulationReport}
-use Rattle.state.specs.declared.accumulation.AccumulationStep.{AccumulationStep}
-use Rattle.state.specs.declared.accumulation.Gap.the-variants.{Joins}
+use Rattle.accumulation.specs.declared.Accumulation.{Accumulation}
+use Rattle.accumulation.specs.declared.AccumulationReport.{AccumulationReport}
+use Rattle.accumulation.specs.declared.AccumulationStep.{AccumulationStep}
+use Rattle.accumulation.specs.declared.Gap.the-variants.{Joins}
 use Rattle.state.specs.declared.deciding.Answer.the-variants.{Accepted}
 use Rattle.state.specs.declared.deciding.Decided.{Decided}
-use Rattle.state.specs.declared.major.Major.{Major}
-use Rattle.state.specs.declared.major.MajorReport.{MajorReport}
-use Rattle.state.specs.declared.major.MajorStep.{MajorStep}
+use Rattle.major.specs.declared.Major.{Major}
+use Rattle.major.specs.declared.MajorReport.{MajorReport}
+use Rattle.major.specs.declared.MajorStep.{MajorStep}
 use Rattle.state.proofs.Numbers.{accepted-is, refused-is}
-use Rattle.reader.specs.Buffers.{copiedBy}
-use Rattle.reader.specs.Steps.{Buffers, input, cellsAfter, samplesAfter}
+use Rattle.reader.specs.Buffers.{Buffers, copiedBy, cellsAfter, samplesAfter, worked}
+use Rattle.reader.specs.Steps.{input}
 use Rattle.stream.specs.Running.{Call, Trace, step, ClosedAccumulation, ClosedMajor, called, accumulationOut, majorOut, accumulations, majors}
-use Rattle.stream.specs.Sending.{realTime, Kept}
+use Rattle.stream.specs.Sending.{realTime, Kept, hasMag}
 use Rattle.stream.specs.Cutting.{at, typeOf}
 use Rattle.stream.specs.Filling.{packet}
 use Rattle.stream.proofs.Runs.{answered}
@@ -40,7 +45,7 @@ unfoldable pub cellsWith : Kept → List ℕ → List ℕ
 cellsWith x c = laidFrame (frameCode (packet x)) (scienceBytes (packet x)) c
 
 unfoldable pub samplesWith : Kept → List ℤ → List ℤ
-samplesWith x s = cond (realTime (x .bytes)) (patch s (samplesSize * slotOf (at x)) (samples (magBytes (packet x)))) s
+samplesWith x s = cond (hasMag x) (patch s (samplesSize * slotOf (at x)) (samples (magBytes (packet x)))) s
 
 abbrev pub noCells : List ℕ
 noCells = replicate cellsSize 0
@@ -57,7 +62,7 @@ majorClosing m s = cond (majorOpen m) (record { frame = m; samples = s } ∷ [])
 
 -- the major frame with a record's slot in it
 unfoldable pub majorWith : Kept → Major → Major
-majorWith x m = into m (at x) (realTime (x .bytes)) (range (magBytes (packet x))) (recordOf (x .bytes) .subcom)
+majorWith x m = into m (at x) (hasMag x) (range (magBytes (packet x))) (recordOf (x .bytes) .subcom)
 
 -- accepted records as the accumulation alone meets them, and as the major frame does
 unfoldable pub accumulate : Accumulation → List ℕ → List Kept → List ClosedAccumulation
@@ -77,20 +82,12 @@ collect m s (x ∷ xs) =
     (majorClosing m s ++ collect (majorWith x noMajor) (samplesWith x noSamples) xs)
 
 -- a call by the decision that it comes to
-abbrev callOf : State → Buffers → List ℕ → Decided → Call
-callOf s b r x = record {
-  result = x .stepped;
-  left = record {
-    openCells = cellsAfter (x .cells) (packetBytes r) (b .openCells);
-    finishedCells = copiedBy (x .cells .copies) (b .openCells) (b .finishedCells);
-    openSamples = samplesAfter (x .samples) (packetBytes r) (slotOf (recordOf r .count)) (b .openSamples);
-    finishedSamples = copiedBy (x .samples .copies) (b .openSamples) (b .finishedSamples);
-  };
-}
+abbrev callOf : Buffers → List ℕ → Decided → Call
+callOf b r x = record { result = x .stepped; left = worked (x .works) (packetBytes r) b }
 
-call-is : (s : State) (b : Buffers) (r : List ℕ) (x : Decided) → decidedOf (input s b r) ≡ x → called s b r ≡ callOf s b r x
+call-is : (s : State) (b : Buffers) (r : List ℕ) (x : Decided) → decidedOf (input s b r) ≡ x → called s b r ≡ callOf b r x
 unfolding called
-call-is s b r x e = ap (callOf s b r) e
+call-is s b r x e = ap (callOf b r) e
 
 -- a refused record
 pub refused-call : (s : State) (b : Buffers) (r : List ℕ) → 0 < answerNumber (called s b r .result .answer)
@@ -121,23 +118,31 @@ samples-out m c d = go (majorOpen m)
     go true = refl
     go false = refl
 
--- an accepted record
-module _ (s : State) (b : Buffers) (x : Kept) (e : numberOf (input s b (x .bytes)) ≡ 0) where
+-- an accepted record, at the count at which it was sent
+module _ (s : State) (b : Buffers) (x : Kept) (e : numberOf (input s b (x .bytes)) ≡ 0) (q : dated (s .clock) (recordOf (x .bytes)) ≡ at x) where
+  abbrev kind : Kind
+  kind = recordOf (x .bytes) .kind
+
   abbrev taken : Decided
   taken = acceptance s (recordOf (x .bytes)) (at x) (range (magBytes (packet x)))
 
-  is-taken : called s b (x .bytes) ≡ callOf s b (x .bytes) taken
-  is-taken = call-is s b (x .bytes) taken (accepted-is (input s b (x .bytes)) e)
+  is-taken : called s b (x .bytes) ≡ callOf b (x .bytes) taken
+  is-taken = call-is s b (x .bytes) taken (accepted-is (input s b (x .bytes)) e ∙ rw q)
+
+  -- what carries science is real-time
+  carries : realTime (x .bytes) ≡ true → carriesScience kind ≡ true
+  carries r = science-real kind ∙ r
 
   -- one that opens an accumulation, and one that joins
-  pub opening : realTime (x .bytes) ≡ true → joins (s .accumulation) (typeOf x) (at x) ≡ false → called s b (x .bytes) .result .state .accumulation ≡ started (typeOf x) (at x)
-  unfolding acceptedAt stepAccumulation
-  opening r j = rw (is-taken, r, j)
+  pub opening : realTime (x .bytes) ≡ true → joins (s .accumulation) (typeOf x) (at x) ≡ false
+      → called s b (x .bytes) .result .state .accumulation ≡ started (typeOf x) (at x)
+  unfolding acceptance stepAccumulation
+  opening r j = rw (is-taken, carries r, j)
 
   pub joining : realTime (x .bytes) ≡ true → joins (s .accumulation) (typeOf x) (at x) ≡ true
       → called s b (x .bytes) .result .answer ≡ Accepted (record { fields = recordOf (x .bytes); gap = Joins })
-  unfolding acceptedAt stepAccumulation
-  joining r j = rw (is-taken, r, j)
+  unfolding acceptance stepAccumulation
+  joining r j = rw (is-taken, carries r, j)
 
   module _ (t : Trace) (xs : List Kept) where
     -- the accumulation and the open cells
@@ -146,22 +151,23 @@ module _ (s : State) (b : Buffers) (x : Kept) (e : numberOf (input s b (x .bytes
         → accumulations (step c t) ≡ accumulate (s .accumulation) (b .openCells) (x ∷ xs)
 
     pub cells-call : length (b .openCells) ≡ cellsSize → FromCells (called s b (x .bytes))
-    unfolding stepAccumulation cellsWith acceptedAt accumulations accumulate
-    cells-call n = subst⁻¹ FromCells is-taken (λ h. go (realTime (x .bytes)) (joins (s .accumulation) (typeOf x) (at x)) h)
+    unfolding stepAccumulation cellsWith acceptance accumulations accumulate
+    cells-call n = subst⁻¹ FromCells is-taken (go (carriesScience kind) (joins (s .accumulation) (typeOf x) (at x)) (science-real kind))
       where
         stepOf : Bool → Bool → AccumulationStep
-        stepOf p q = stepAccumulation (s .accumulation) p (p && q) (typeOf x) (at x)
+        stepOf p j = cond p (cond j (extends (s .accumulation) (typeOf x) (at x)) (renews (s .accumulation) (typeOf x) (at x))) (passes (s .accumulation))
 
-        go : (p q : Bool) → accumulations t ≡ accumulate (stepOf p q .next) (cellsAfter (stepOf p q .work) (packet x) (b .openCells)) xs
-            → accumulationOut (stepOf p q .report) (copiedBy (stepOf p q .work .copies) (b .openCells) (b .finishedCells)) ++ accumulations t
-            ≡ cond p
-            (cond q
+        go : (p j : Bool) → p ≡ realTime (x .bytes)
+            → accumulations t ≡ accumulate (stepOf p j .next) (cellsAfter (stepOf p j .work) (packet x) (b .openCells)) xs
+            → accumulationOut (stepOf p j .report) (copiedBy (stepOf p j .work .copies) (b .openCells) (b .finishedCells)) ++ accumulations t
+            ≡ cond (realTime (x .bytes))
+            (cond j
             (accumulate (joined (s .accumulation) (typeOf x) (at x)) (cellsWith x (b .openCells)) xs)
             (closing (s .accumulation) (b .openCells) ++ accumulate (started (typeOf x) (at x)) (cellsWith x noCells) xs))
             (accumulate (passed (s .accumulation)) (b .openCells) xs)
-        go true true h = h
-        go true false h = rw (cells-out (s .accumulation) (b .openCells) (b .finishedCells), h, n)
-        go false q h = h
+        go true true r h = rw (sym r) h
+        go true false r h = rw (sym r, cells-out (s .accumulation) (b .openCells) (b .finishedCells), h, n)
+        go false j r h = rw (sym r) h
 
     -- the major frame and the open samples
     abbrev FromSamples : Call → Type 0
@@ -169,17 +175,17 @@ module _ (s : State) (b : Buffers) (x : Kept) (e : numberOf (input s b (x .bytes
         → majors (step c t) ≡ collect (s .major) (b .openSamples) (x ∷ xs)
 
     pub samples-call : length (b .openSamples) ≡ frameSamples → FromSamples (called s b (x .bytes))
-    unfolding stepMajor samplesWith acceptedAt majors collect majorWith
+    unfolding stepMajor samplesWith acceptance majors collect majorWith
     samples-call n = subst⁻¹ FromSamples is-taken (λ h. go (continues (s .major) (at x)) h)
       where
         stepOf : Bool → MajorStep
         stepOf p =
             cond p
-            (stays (s .major) (at x) (realTime (x .bytes)) (range (magBytes (packet x))) (recordOf (x .bytes) .subcom))
-            (turns (s .major) (at x) (realTime (x .bytes)) (range (magBytes (packet x))) (recordOf (x .bytes) .subcom))
+            (stays (s .major) (at x) (hasMag x) (range (magBytes (packet x))) (recordOf (x .bytes) .subcom))
+            (turns (s .major) (at x) (hasMag x) (range (magBytes (packet x))) (recordOf (x .bytes) .subcom))
 
-        go : (p : Bool) → majors t ≡ collect (stepOf p .next) (samplesAfter (stepOf p .work) (packet x) (slotOf (at x)) (b .openSamples)) xs
-            → majorOut (stepOf p .report) (copiedBy (stepOf p .work .copies) (b .openSamples) (b .finishedSamples)) ++ majors t
+        go : (p : Bool) → majors t ≡ collect (stepOf p .next) (samplesAfter (stepOf p .work) (packet x) (b .openSamples)) xs
+            → majorOut (stepOf p .report) (copiedBy (stepOf p .work .work .copies) (b .openSamples) (b .finishedSamples)) ++ majors t
             ≡ cond p
             (collect (majorWith x (s .major)) (samplesWith x (b .openSamples)) xs)
             (majorClosing (s .major) (b .openSamples) ++ collect (majorWith x noMajor) (samplesWith x noSamples) xs)

@@ -12,7 +12,7 @@ use Rattle.bits.specs.Twelve.{Bytes}
 use Rattle.record.specs.Layout.{frameCode}
 use Rattle.carriage.specs.Carriage.{types}
 use Rattle.stream.specs.Filling.{packet}
-use Rattle.stream.specs.Sending.{realTime, next, Fate, kept, removed, extra, Sends, Kept, keptOf, reals}
+use Rattle.stream.specs.Sending.{realTime, next, Fate, kept, removed, extra, Sends, Kept, keptOf, those, isReal, reals}
 use Rattle.stream.specs.Cutting.{at, typeOf}
 use Rattle.stream.proofs.Marking.{Rising, rising-down}
 
@@ -44,15 +44,17 @@ next-near k r = go (realTime r) refl
     go true e = rw e (omega arith, omega arith)
     go false e = rw e (omega arith, omega arith)
 
-pub chain : (xs : List Fate) (c k l : ℕ) → Sends c k xs → Chain c k l (keptOf k l xs)
+pub chain : (xs : List Fate) (c k l : ℕ) → Sends c k xs → Chain c k l (keptOf c k l xs)
 unfolding Chain Sends keptOf
 chain [] c k l h = tt
 chain (extra x ∷ xs) c k l h = chain xs c k l h
-chain (removed r ∷ xs) c k l h = let n = next-near k r in loosen (keptOf (next k r) (l + 1) xs) c k (next k r) l (n .0) (n .1) (chain xs (c + 1) (next k r) (l + 1) (h .1))
+chain (removed r ∷ xs) c k l h =
+    let n = next-near k r in
+    loosen (keptOf (c + 1) (next k r) (l + 1) xs) c k (next k r) l (n .0) (n .1) (chain xs (c + 1) (next k r) (l + 1) (h .1))
 chain (kept r ∷ xs) c k l h =
     let p = h .0 in (
       record { bytes = p .bytes; counted = omega arith; losing = omega arith; rising = omega arith; between = omega arith; typed = p .typed },
-      subst⁻¹ (λ (d : ℕ). Chain (d + 1) (next k r) l (keptOf (next k r) l xs)) (p .counted) (chain xs (c + 1) (next k r) l (h .1)),
+      chain xs (c + 1) (next k r) l (h .1),
     )
 
 -- a kept real-time record: its number gives its type, and its Frame Code is a byte
@@ -65,7 +67,7 @@ code-below : (f : Kept) → Bytes (f .bytes) → frameCode (packet f) < 256
 code-below f b = let e = getD-take 168 (drop 286 (f .bytes)) 0 0 (omega arith) ∙ getD-drop 286 (f .bytes) 0 0 in subst⁻¹ (λ (n : ℕ). n < 256) e (b 286)
 
 pub all-typed : (xs : List Kept) (c k l : ℕ) → Chain c k l xs → Every Typed (reals xs)
-unfolding Chain Every reals
+unfolding Chain Every those
 all-typed [] c k l h = tt
 all-typed (x ∷ xs) c k l h = go (realTime (x .bytes)) refl (all-typed xs (at x + 1) (next (x .serial) (x .bytes)) (x .lost) (h .1))
   where
@@ -86,7 +88,7 @@ rising-counts [] c k l h = tt
 rising-counts (x ∷ xs) c k l h = (omega (arith, h .0 .counted, h .0 .losing), rising-counts xs (at x + 1) (next (x .serial) (x .bytes)) (x .lost) (h .1))
 
 pub rising-serials : (xs : List Kept) (c k l : ℕ) → Chain c k l xs → Rising serial k (reals xs)
-unfolding Chain Rising reals serial
+unfolding Chain Rising those serial
 rising-serials [] c k l h = tt
 rising-serials (x ∷ xs) c k l h = go (realTime (x .bytes)) refl (rising-serials xs (at x + 1) (next (x .serial) (x .bytes)) (x .lost) (h .1))
   where

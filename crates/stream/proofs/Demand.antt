@@ -9,10 +9,10 @@ use Rattle.mag.specs.Samples.{samplesSize}
 use Rattle.carriage.specs.Carriage.{scienceSize}
 use Rattle.state.specs.List.{fresh}
 use Rattle.state.proofs.Keeping.{fresh-sound}
-use Rattle.reader.specs.Steps.{Buffers}
+use Rattle.reader.specs.Buffers.{Buffers}
 use Rattle.stream.specs.Lists.{Pairwise, flat}
 use Rattle.stream.specs.Running.{Trace, run, Allowed}
-use Rattle.stream.specs.Sending.{Fate, fed, Stream, Kept, reals, unspoiled}
+use Rattle.stream.specs.Sending.{Fate, fed, Stream, Kept, mags, unspoiled}
 use Rattle.stream.specs.Cutting.{Joined, Parted, Beside, Behind}
 use Rattle.stream.specs.Filling.{Filled, MajorFilled}
 use Rattle.stream.specs.Demand.{Demand3}
@@ -28,9 +28,9 @@ use Rattle.stream.proofs.Slots.{major-filled}
 use Rattle.stream.proofs.Sums.{cells-total, samples-total, slots-total}
 
 module _ (xs : List Fate) (b : Buffers) (c k : ℕ) where
-  ran : Stream c k xs b (run fresh b (fed xs)) → Demand3 k xs (run fresh b (fed xs))
+  ran : Stream c k xs b (run fresh b (fed xs)) → Demand3 c k xs (run fresh b (fed xs))
   ran w =
-      let ks = unspoiled k xs in
+      let ks = unspoiled c k xs in
       let p = parts xs k 0 c fresh b (start b c (w .right)) (w .sent) (w .refused) in
       let chained = chain xs c k 0 (w .sent) in
       let r = rounds ks (b .openCells) c k 0 chained in
@@ -50,10 +50,10 @@ module _ (xs : List Fate) (b : Buffers) (c k : ℕ) where
         major-cut = m .cut;
         major-out = major-out;
         cells-sum = cells-total (r .groups) _ parts-out ∙ ap (λ (g : List Kept). scienceSize * length g) (r .whole);
-        samples-sum = samples-total (m .groups) _ major-out ∙ ap (λ (g : List Kept). samplesSize * length (reals g)) (m .whole);
+        samples-sum = samples-total (m .groups) _ major-out ∙ ap (λ (g : List Kept). samplesSize * length (mags g)) (m .whole);
         slots-sum = slots-total (m .groups) _ major-out ∙ ap length (m .whole);
         states-sound = run-sound (fed xs) fresh b fresh-sound;
       }
 
-  pub demand-3 : (t : Trace) → Stream c k xs b t → Allowed fresh b (fed xs) t → Demand3 k xs t
-  demand-3 t w a = let e = only-run (fed xs) fresh b t a in subst⁻¹ (Demand3 k xs) e (ran (subst (Stream c k xs b) e w))
+  pub demand-3 : (t : Trace) → Stream c k xs b t → Allowed fresh b (fed xs) t → Demand3 c k xs t
+  demand-3 t w a = let e = only-run (fed xs) fresh b t a in subst⁻¹ (Demand3 c k xs) e (ran (subst (Stream c k xs b) e w))

@@ -10,8 +10,8 @@ use lib.Pow.{pow-pos}
 use borrow.Author.Tests.{eqb-true, eqb-false, ne-eqb}
 use Rattle.tables.specs.Marks.{marked}
 use Rattle.tables.proofs.Conds.{two}
-use Rattle.state.specs.Major.{majorNumber, majorOpen, noMajor, continues, into}
-use Rattle.state.specs.declared.major.Major.{Major}
+use Rattle.major.specs.Major.{majorNumber, majorOpen, noMajor, continues, into}
+use Rattle.major.specs.declared.Major.{Major}
 use Rattle.stream.specs.Running.{ClosedMajor}
 use Rattle.stream.specs.Sending.{next, Kept}
 use Rattle.stream.specs.Cutting.{at, major, Beside, Behind}

@@ -5,7 +5,7 @@ pub mod Spoiling
 pub mod Chains
 pub mod Grouping
 pub mod Marking
-pub mod Reals
+pub mod Those
 pub mod Members
 pub mod Rounds
 pub mod Cells

@@ -10,12 +10,12 @@ use native.Mathlib.Omega.{arith}
 use lib.Dec.{eqb}
 use borrow.Author.Tests.{eq-eqb, ne-eqb, eqb-true}
 use Rattle.stream.specs.Lists.{Some, Neighbours, total}
-use Rattle.stream.specs.Sending.{next, Kept, reals}
+use Rattle.stream.specs.Sending.{next, Kept, isReal, reals}
 use Rattle.stream.specs.Cutting.{at, hasCount, unaccepted, lostBetween}
 use Rattle.stream.proofs.Marking.{Rising}
-use Rattle.stream.proofs.Reals.{rising-reals}
+use Rattle.stream.proofs.Those.{rising-those}
 use Rattle.stream.proofs.Chains.{Chain, rising-counts}
-use Rattle.stream.proofs.Members.{In, above, real-in, neighbours-in, neighbours-rise}
+use Rattle.stream.proofs.Members.{In, above, those-in, neighbours-in, neighbours-rise}
 use Rattle.stream.proofs.Counting.{total-same, total-none, total-add, total-more, total-suc, only}
 
 -- how many kept records have a count below n
@@ -86,4 +86,4 @@ module _ (ks : List Kept) (c k l : ℕ) (h : Chain c k l ks) (p f : Kept) (i : I
 pub real-lost : (ks : List Kept) (c k l : ℕ) → Chain c k l ks → (p f : Kept) → Neighbours p f (reals ks) → unaccepted ks (at p) (at f) ≡ lostBetween p f
 real-lost ks c k l h p f n =
     let i = neighbours-in (reals ks) p f n in
-    unaccepted-lost ks c k l h p f (real-in ks p (i .0) .0) (real-in ks f (i .1) .0) (neighbours-rise at (reals ks) c p f (rising-reals at ks c (rising-counts ks c k l h)) n)
+    unaccepted-lost ks c k l h p f (those-in isReal ks p (i .0) .0) (those-in isReal ks f (i .1) .0) (neighbours-rise at (reals ks) c p f (rising-those isReal at ks c (rising-counts ks c k l h)) n)

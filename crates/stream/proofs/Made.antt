@@ -18,8 +18,8 @@ use Rattle.record.specs.Rules.{rules, broken, sizeHolds, syncHolds, spacecraftH
 use Rattle.record.specs.Contents.{recordOf}
 use Rattle.cells.specs.Laying.{cellsSize}
 use Rattle.state.specs.Deciding.{isRealTime}
-use Rattle.state.specs.Major.{frameSamples}
-use Rattle.reader.specs.Steps.{Buffers, buffers, sized}
+use Rattle.major.specs.Major.{frameSamples}
+use Rattle.reader.specs.Buffers.{Buffers, buffers, sized}
 use Rattle.stream.specs.Sending.{realTime, SentAt}
 use Rattle.stream.proofs.Calls.{noCells, noSamples}
 use Rattle.stream.proofs.Parts.{Lengths, is-sized}

@@ -9,7 +9,7 @@ use native.Mathlib.Decide.{ℕ-discrete}
 use native.Mathlib.Omega.{arith}
 use Rattle.tables.specs.Every.{Every}
 use Rattle.stream.specs.Lists.{Some, Pairwise, ExactlyOne, Neighbours, flat, final, Across, Cut}
-use Rattle.stream.specs.Sending.{realTime, Kept, reals}
+use Rattle.stream.specs.Sending.{Kept, those}
 use Rattle.stream.proofs.Marking.{Rising, rising-down}
 
 abbrev pub In : Kept → List Kept → Type 0
@@ -59,23 +59,24 @@ in-either (x ∷ g) h f (inl e) = inl (inl e)
 in-either (x ∷ g) h f (inr i) = ⊎-elim (λ (j : In f g). inl (inr j)) (λ (j : In f h). inr j) (in-either g h f i)
 
 -- among the real-time ones
-pub real-in : (xs : List Kept) (f : Kept) → In f (reals xs) → In f xs × (realTime (f .bytes) ≡ true)
-unfolding Some reals
-real-in [] f i = absurd i
-real-in (x ∷ xs) f i = go (realTime (x .bytes)) refl i (λ j. real-in xs f j)
+pub those-in : (t : Kept → Bool) (xs : List Kept) (f : Kept) → In f (those t xs) → In f xs × (t f ≡ true)
+unfolding Some those
+those-in t [] f i = absurd i
+those-in t (x ∷ xs) f i = go (t x) refl i (λ j. those-in t xs f j)
   where
-    go : (t : Bool) → realTime (x .bytes) ≡ t → In f (cond t (x ∷ reals xs) (reals xs)) → (In f (reals xs) → In f xs × (realTime (f .bytes) ≡ true)) → In f (x ∷ xs) × (realTime (f .bytes) ≡ true)
-    go true r (inl e) ih = (inl e, subst (λ (y : Kept). realTime (y .bytes) ≡ true) e r)
-    go true r (inr j) ih = let k = ih j in (inr (k .0), k .1)
-    go false r j ih = let k = ih j in (inr (k .0), k .1)
+    go : (b : Bool) → t x ≡ b → In f (cond b (x ∷ those t xs) (those t xs)) → (In f (those t xs) → In f xs × (t f ≡ true))
+        → In f (x ∷ xs) × (t f ≡ true)
+    go true r (inl e) ih = (inl e, subst (λ (y : Kept). t y ≡ true) e r)
+    go true r (inr j) ih = let q = ih j in (inr (q .0), q .1)
+    go false r j ih = let q = ih j in (inr (q .0), q .1)
 
-pub in-real : (xs : List Kept) (f : Kept) → In f xs → realTime (f .bytes) ≡ true → In f (reals xs)
-unfolding Some reals
-in-real [] f i r = absurd i
-in-real (x ∷ xs) f (inl e) r = let q : realTime (x .bytes) ≡ true = subst⁻¹ (λ (y : Kept). realTime (y .bytes) ≡ true) e r in rw q (inl e)
-in-real (x ∷ xs) f (inr i) r = go (realTime (x .bytes)) (in-real xs f i r)
+pub in-those : (t : Kept → Bool) (xs : List Kept) (f : Kept) → In f xs → t f ≡ true → In f (those t xs)
+unfolding Some those
+in-those t [] f i r = absurd i
+in-those t (x ∷ xs) f (inl e) r = let q : t x ≡ true = subst⁻¹ (λ (y : Kept). t y ≡ true) e r in rw q (inl e)
+in-those t (x ∷ xs) f (inr i) r = go (t x) (in-those t xs f i r)
   where
-    go : (t : Bool) → In f (reals xs) → In f (cond t (x ∷ reals xs) (reals xs))
+    go : (b : Bool) → In f (those t xs) → In f (cond b (x ∷ those t xs) (those t xs))
     go true j = inr j
     go false j = j
 

@@ -7,10 +7,10 @@ use Prim.Native.Nat.{ℕ, _≤_, _*_}
 use lib.ListN.{length}
 use Rattle.carriage.specs.Carriage.{scienceSize}
 use Rattle.state.specs.List.{fresh}
-use Rattle.reader.specs.Steps.{Buffers}
+use Rattle.reader.specs.Buffers.{Buffers}
 use Rattle.stream.specs.Lists.{Some}
 use Rattle.stream.specs.Running.{Trace, Allowed, accumulations, majors}
-use Rattle.stream.specs.Sending.{Fate, fed, Stream, reals, unspoiled, Kept}
+use Rattle.stream.specs.Sending.{Fate, fed, Stream, isReal, reals, unspoiled, Kept}
 use Rattle.stream.specs.Cutting.{at, Joined, Parted, tears}
 use Rattle.stream.specs.Filling.{Filled}
 use Rattle.stream.specs.Once.{OnceEach, Own}
@@ -18,19 +18,19 @@ use Rattle.stream.proofs.Sums.{filled-total}
 use Rattle.stream.proofs.Filled.{filled-held}
 use Rattle.stream.proofs.Lost.{real-lost}
 use Rattle.stream.proofs.Chains.{rising-counts, rising-serials, chain, all-typed}
-use Rattle.stream.proofs.Reals.{rising-reals}
+use Rattle.stream.proofs.Those.{rising-those}
 use Rattle.stream.proofs.Demand.{demand-3}
 use Rattle.stream.proofs.OwnCells.{all-tied, own-once, own-stands, all-unmixed, torn-where}
 use Rattle.stream.proofs.OwnSlots.{major-once, major-slotted, majors-unmixed}
 
-pub once-each : (xs : List Fate) (b : Buffers) (c k : ℕ) (t : Trace) → Stream c k xs b t → Allowed fresh b (fed xs) t → OnceEach k xs t
+pub once-each : (xs : List Fate) (b : Buffers) (c k : ℕ) (t : Trace) → Stream c k xs b t → Allowed fresh b (fed xs) t → OnceEach c k xs t
 once-each xs b c k t w a =
     let d = demand-3 xs b c k t w a in
-    let ks = unspoiled k xs in
+    let ks = unspoiled c k xs in
     let rs = reals ks in
     let chained = chain xs c k 0 (w .sent) in
     let counts = rising-counts ks c k 0 chained in
-    let real-counts = rising-reals at ks c counts in
+    let real-counts = rising-those isReal at ks c counts in
     let serials = rising-serials ks c k 0 chained in
     let known = all-typed ks c k 0 chained in
     let parts = all-tied Joined Parted Filled (d .parts) (accumulations t) (d .parts-cut) (d .parts-out) in

@@ -20,16 +20,17 @@ use Rattle.carriage.proofs.EachCell.{once}
 use Rattle.cells.specs.Raw.{holdsCell}
 use Rattle.cells.specs.Laying.{cellsSize}
 use Rattle.listing.specs.Lines.{framesHeld, cellsHeld}
-use Rattle.state.specs.Accumulation.{joins, started}
+use Rattle.accumulation.specs.Accumulation.{joins, started}
 use Rattle.state.specs.Deciding.{numberOf, answerNumber}
 use Rattle.state.specs.List.{fresh}
-use Rattle.state.specs.declared.accumulation.AccumulationReport.{AccumulationReport}
-use Rattle.state.specs.declared.accumulation.Gap.the-variants.{Joins}
+use Rattle.accumulation.specs.declared.AccumulationReport.{AccumulationReport}
+use Rattle.accumulation.specs.declared.Gap.the-variants.{Joins}
 use Rattle.state.specs.declared.deciding.Answer.{Answer}
 use Rattle.state.specs.declared.State.{State}
 use Rattle.state.proofs.Told.{all-pass, passed-size}
 use Rattle.state.proofs.Keeping.{fresh-sound}
-use Rattle.reader.specs.Steps.{Buffers, input}
+use Rattle.reader.specs.Buffers.{Buffers}
+use Rattle.reader.specs.Steps.{input}
 use Rattle.stream.specs.Running.{Reader, Call, traceOf, called, ClosedAccumulation, accumulationOut, accumulations}
 use Rattle.stream.specs.Lists.{Pairwise, sum, total}
 use Rattle.stream.specs.Sending.{Fate, kept, Sends, fed, ExtraRefused, Stream, Kept, keptOf, reals, realUnspoiled, KeptAccepted}
@@ -114,11 +115,11 @@ pair : List Fate
 pair = kept (made 100 5) ∷ kept (made 101 6) ∷ []
 
 real-one : realUnspoiled 5 one ≡ first ∷ []
-unfolding one keptOf reals first
+unfolding one keptOf those first
 real-one = rw (real-five 100)
 
 real-both : realUnspoiled 5 pair ≡ first ∷ second ∷ []
-unfolding pair keptOf reals first second
+unfolding pair keptOf those first second
 real-both = rw (real-five 100, real-six 101)
 
 -- what is handed out by one that stores nothing

@@ -13,17 +13,17 @@ use borrow.Author.Tests.{ltb-true, leb-true, lt-ltb, le-leb, ne-eqb, leb-false}
 use Rattle.tables.specs.Marks.{marked}
 use Rattle.tables.proofs.Conds.{two}
 use Rattle.carriage.specs.Carriage.{types}
-use Rattle.state.specs.Accumulation.{isOpen, noAccumulation, gap, fewest, most, joins, joined, passed}
-use Rattle.state.specs.declared.accumulation.Accumulation.{Accumulation}
+use Rattle.accumulation.specs.Accumulation.{isOpen, noAccumulation, gap, fewest, most, joins, joined, passed}
+use Rattle.accumulation.specs.declared.Accumulation.{Accumulation}
 use Rattle.stream.specs.Running.{ClosedAccumulation}
-use Rattle.stream.specs.Sending.{realTime, next, Kept, reals}
+use Rattle.stream.specs.Sending.{realTime, next, Kept, those, isReal, reals}
 use Rattle.stream.specs.Cutting.{at, typeOf, lostBetween, Joined, Parted}
 use Rattle.stream.specs.Filling.{firstCount}
 use Rattle.stream.proofs.Calls.{cellsWith, noCells, closing, accumulate}
 use Rattle.stream.proofs.Chains.{Next, Chain}
 use Rattle.stream.proofs.Grouping.{Told, told-end, told-joined, told-opened, Grouped, grouped-none, grouped}
 use Rattle.stream.proofs.Marking.{marksFrom, marks-more, marks-some}
-use Rattle.stream.proofs.Reals.{reals-more, reals-same}
+use Rattle.stream.proofs.Those.{those-more, those-same}
 
 -- the cells of frames, one after another
 unfoldable pub cellsFrom : List ℕ → List Kept → List ℕ
@@ -118,7 +118,7 @@ abbrev From : Kept → List Kept → Kept → ℕ → List Kept → Type 0
 From h t p o xs = Told Joined Parted outOf h t p (reals xs) (accumulate (openWith (h ∷ t) p o) (cellsFrom noCells (h ∷ t)) xs)
 
 told : (xs : List Kept) (h : Kept) (t : List Kept) (p : Kept) (o c k l : ℕ) → Ties p o c k l → Chain c k l xs → From h t p o xs
-unfolding accumulate reals Chain
+unfolding accumulate those Chain
 told [] h t p o c k l e w = rw (closes h t p o) (told-end Joined Parted outOf h t p)
 told (x ∷ xs) h t p o c k l e w =
     go (realTime (x .bytes)) (joins (openWith (h ∷ t) p o) (typeOf x) (at x)) refl refl (λ h t p o e. told xs h t p o (at x + 1) (next (x .serial) (x .bytes)) (x .lost) e (w .1))
@@ -130,13 +130,13 @@ told (x ∷ xs) h t p o c k l e w =
         → ((h : Kept) (t : List Kept) (p : Kept) (o : ℕ) → Ties p o (at x + 1) (next (x .serial) (x .bytes)) (x .lost) → From h t p o xs)
         → From h t p o (x ∷ xs)
     go false b r j ih =
-        rw (reals-same x xs r, accumulate-pass x xs r (openWith (h ∷ t) p o) (cellsFrom noCells (h ∷ t)), is-open h t p o)
+        rw (those-same isReal x xs r, accumulate-pass x xs r (openWith (h ∷ t) p o) (cellsFrom noCells (h ∷ t)), is-open h t p o)
         (ih h t p (o + 1) (ties-other p x o c k l e n r))
     go true true r j ih =
-        rw (reals-more x xs r, accumulate-join x xs r (openWith (h ∷ t) p o) (cellsFrom noCells (h ∷ t)) j, ← marks-more typeOf (h ∷ t) 0 x, ← cells-more (h ∷ t) noCells x)
+        rw (those-more isReal x xs r, accumulate-join x xs r (openWith (h ∷ t) p o) (cellsFrom noCells (h ∷ t)) j, ← marks-more typeOf (h ∷ t) 0 x, ← cells-more (h ∷ t) noCells x)
         (told-joined Joined Parted outOf h t p x (reals xs) _ (joined-so (h ∷ t) p x o c k l e n r j) (ih h (t ++ (x ∷ [])) x 0 (ties-real x c k l n r)))
     go true false r j ih =
-        rw (reals-more x xs r, accumulate-open x xs r (openWith (h ∷ t) p o) (cellsFrom noCells (h ∷ t)) j, closes h t p o)
+        rw (those-more isReal x xs r, accumulate-open x xs r (openWith (h ∷ t) p o) (cellsFrom noCells (h ∷ t)) j, closes h t p o)
         (told-opened Joined Parted outOf h t p x (reals xs) _ (torn-so (h ∷ t) p x o c k l e n r (is-open h t p o) j) (ih x [] x 0 (ties-real x c k l n r)))
 
 -- from nothing open: the accumulations handed out are some cutting of the kept real-time records
@@ -144,12 +144,12 @@ abbrev pub Rounds : List ℕ → List Kept → Type 0
 Rounds b xs = Grouped Joined Parted outOf (reals xs) (accumulate noAccumulation b xs)
 
 pub rounds : (xs : List Kept) (b : List ℕ) (c k l : ℕ) → Chain c k l xs → Rounds b xs
-unfolding accumulate closing reals Chain joins
+unfolding accumulate closing those Chain joins
 rounds [] b c k l w = grouped-none Joined Parted outOf
 rounds (x ∷ xs) b c k l w = go (realTime (x .bytes)) refl (rounds xs b (at x + 1) (next (x .serial) (x .bytes)) (x .lost) (w .1))
   where
     go : (a : Bool) → realTime (x .bytes) ≡ a → Rounds b xs → Rounds b (x ∷ xs)
-    go false e r = rw (reals-same x xs e, accumulate-pass x xs e noAccumulation b) r
+    go false e r = rw (those-same isReal x xs e, accumulate-pass x xs e noAccumulation b) r
     go true e r =
-        rw (reals-more x xs e, accumulate-open x xs e noAccumulation b refl)
+        rw (those-more isReal x xs e, accumulate-open x xs e noAccumulation b refl)
         (grouped Joined Parted outOf x (reals xs) _ (told xs x [] x 0 (at x + 1) (next (x .serial) (x .bytes)) (x .lost) (ties-real x c k l (w .0) e) (w .1)))

@@ -5,26 +5,24 @@ use mathlib.Core.Bool.{Bool, true, false, cond, _&&_}
 use mathlib.Core.List.{List, [], _∷_}
 use Prim.Native.Nat.{ℕ}
 use lib.Dec.{eqb}
-use lib.IntN.{ℤ}
 use borrow.Author.Tests.{eqb-true, eqb-false}
 use Rattle.tables.specs.Every.{Every}
 use Rattle.state.specs.List.{listed}
-use Rattle.state.specs.Deciding.{Input, numberOf, acceptedAt, decidedOf, answerNumber}
+use Rattle.state.specs.Deciding.{Input, numberOf, acceptance, decidedOf, answerNumber}
 use Rattle.state.specs.Ending.{ending, unended, endedOf, endNumber, endingNumber}
 use Rattle.state.specs.Keeping.{Sound}
 use Rattle.state.specs.declared.State.{State}
 use Rattle.state.specs.declared.deciding.Decided.{Decided}
-use Rattle.state.specs.declared.deciding.Stepped.{Stepped}
-use Rattle.state.specs.declared.ending.Finished.{Finished}
 use Rattle.state.proofs.Numbers.{accepted-is, refused-is}
 use Rattle.state.proofs.Keeping.{step-sound, end-sound}
-use Rattle.reader.specs.Steps.{Buffers, buffers, sized, input}
+use Rattle.reader.specs.Buffers.{Buffers, sized}
+use Rattle.reader.specs.Steps.{input}
 use Rattle.stream.specs.Running.{Call, End, Reader, Trace, step, finish, traceOf, called, defined, run, StepAllowed, Allowed, states}
 use Rattle.stream.specs.Law.{Keeps}
 
 -- the number of a decision is that of its answer
 pub answered : (i : Input) → answerNumber (decidedOf i .stepped .answer) ≡ numberOf i
-unfolding answerNumber acceptedAt
+unfolding answerNumber acceptance
 answered i = go (eqb (numberOf i) 0) refl
   where
     go : (t : Bool) → eqb (numberOf i) 0 ≡ t → answerNumber (decidedOf i .stepped .answer) ≡ numberOf i
@@ -39,29 +37,15 @@ finished s size = go (size && listed s)
     go true = refl
     go false = refl
 
--- a call is its answer and its four buffers
-abbrev call : Stepped → List ℕ → List ℕ → List ℤ → List ℤ → Call
-call x oc fc os fs = record { result = x; left = buffers oc fc os fs }
-
-abbrev last : Finished → List ℕ → List ℕ → List ℤ → List ℤ → End
-last x oc fc os fs = record { result = x; left = buffers oc fc os fs }
-
-module _ {oc oc′ fc fc′ : List ℕ} {os os′ fs fs′ : List ℤ} (a : oc ≡ oc′) (b : fc ≡ fc′) (c : os ≡ os′) (d : fs ≡ fs′) where
-  same-call : (x y : Stepped) → x ≡ y → call x oc fc os fs ≡ call y oc′ fc′ os′ fs′
-  same-call x y e = rw (e, a, b, c, d)
-
-  same-last : (x y : Finished) → x ≡ y → last x oc fc os fs ≡ last y oc′ fc′ os′ fs′
-  same-last x y e = rw (e, a, b, c, d)
-
 -- whatever meets the promise of step is this call
 pub only-call : (s : State) (b : Buffers) (r : List ℕ) (c : Call) → StepAllowed s b r c → c ≡ called s b r
 unfolding called
-only-call s b r c h = same-call (h .cells-open) (h .cells-finished) (h .samples-open) (h .samples-finished) _ _ (h .result)
+only-call s b r c h = rw (h .result, h .left)
 
 -- and at each call has this trace
 pub only-run : (rs : List (List ℕ)) (s : State) (b : Buffers) (t : Trace) → Allowed s b rs t → t ≡ run s b rs
 unfolding Allowed traceOf
-only-run [] s b (finish e) h = ap finish (same-last (h .cells-open) (h .cells-finished) (h .samples-open) (h .samples-finished) _ _ (h .result))
+only-run [] s b (finish e) h = rw (h .result, h .left)
 only-run [] s b (step c t) h = absurd h
 only-run (r ∷ rs) s b (finish e) h = absurd h
 only-run (r ∷ rs) s b (step c t) h =
@@ -72,8 +56,8 @@ only-run (r ∷ rs) s b (step c t) h =
 pub defined-keeps : Keeps defined
 unfolding called
 defined-keeps = record {
-  steps = λ s b r. record { result = refl; number = answered (input s b r); cells-open = refl; cells-finished = refl; samples-open = refl; samples-finished = refl };
-  finishes = λ s b. record { result = refl; number = finished s (sized b); cells-open = refl; cells-finished = refl; samples-open = refl; samples-finished = refl };
+  steps = λ s b r. record { result = refl; number = answered (input s b r); left = refl };
+  finishes = λ s b. record { result = refl; number = finished s (sized b); left = refl };
 }
 
 -- the trace of a reader that keeps them is allowed

@@ -1,4 +1,4 @@
--- The slots of a major frame: each record's word, and each real-time record's range and samples, in their own slot, 0 in all
+-- The slots of a major frame: each record's word, and the range and samples of each with MAG, in their own slot, 0 in all
 -- others.
 -- Assumes nothing.
 use mathlib.Core.Path.{_≡_, refl, sym, subst, _∙_}
@@ -23,18 +23,18 @@ use Rattle.buffers.proofs.Patches.{length-patch, patch-left, patch-in, patch-ri
 use Rattle.record.specs.Layout.{magBytes}
 use Rattle.record.specs.Contents.{recordOf}
 use Rattle.mag.specs.Samples.{samplesSize, range, sample, samples}
-use Rattle.state.specs.Major.{frameSamples, noMajor, into}
-use Rattle.state.specs.Keeping.{Shaped}
-use Rattle.state.specs.declared.major.Major.{Major}
+use Rattle.major.specs.Major.{frameSamples, noMajor, into}
+use Rattle.major.specs.Shape.{Shaped}
+use Rattle.major.specs.declared.Major.{Major}
 use Rattle.stream.specs.Lists.{Linked}
 use Rattle.stream.specs.Running.{ClosedMajor}
-use Rattle.stream.specs.Sending.{realTime, Kept, reals}
+use Rattle.stream.specs.Sending.{Kept, those, hasMag, mags}
 use Rattle.stream.specs.Cutting.{at, major, Beside}
 use Rattle.stream.specs.Filling.{packet, slot, Sampled, Slotted, MajorFilled}
 use Rattle.stream.proofs.Calls.{samplesWith, noSamples, majorWith}
 use Rattle.stream.proofs.Grouping.{all-share, rising-links}
 use Rattle.stream.proofs.Marking.{marksFrom, Rising, Free, free-below, fits-more, marks-stay, marks-first, marks-count}
-use Rattle.stream.proofs.Reals.{reals-more, every-reals, rising-reals}
+use Rattle.stream.proofs.Those.{those-more, every-those, rising-those}
 use Rattle.stream.proofs.Frames.{majorFrom, samplesFrom, majorOf}
 
 -- the marks of the slots, and of the MAG slots
@@ -43,12 +43,12 @@ unfolding majorFrom majorWith into marksFrom
 slots-are [] m = refl
 slots-are (f ∷ fs) m = slots-are fs (majorWith f m)
 
-mags-are : (fs : List Kept) (m : Major) → majorFrom m fs .«mag_slots» ≡ marksFrom slot (m .«mag_slots») (reals fs)
-unfolding majorFrom majorWith into marksFrom reals
+mags-are : (fs : List Kept) (m : Major) → majorFrom m fs .«mag_slots» ≡ marksFrom slot (m .«mag_slots») (mags fs)
+unfolding majorFrom majorWith into marksFrom those
 mags-are [] m = refl
-mags-are (f ∷ fs) m = mags-are fs (majorWith f m) ∙ go (realTime (f .bytes))
+mags-are (f ∷ fs) m = mags-are fs (majorWith f m) ∙ go (hasMag f)
   where
-    go : (t : Bool) → marksFrom slot (cond t (marked (m .«mag_slots») (slot f)) (m .«mag_slots»)) (reals fs) ≡ marksFrom slot (m .«mag_slots») (cond t (f ∷ reals fs) (reals fs))
+    go : (t : Bool) → marksFrom slot (cond t (marked (m .«mag_slots») (slot f)) (m .«mag_slots»)) (mags fs) ≡ marksFrom slot (m .«mag_slots») (cond t (f ∷ mags fs) (mags fs))
     go true = refl
     go false = refl
 
@@ -57,21 +57,21 @@ unfolding majorFrom majorWith into Every
 number-stays [] m n e h = e
 number-stays (f ∷ fs) m n e h = number-stays fs (majorWith f m) n (h .0) (h .1)
 
--- a slot that no record has keeps its word; one that no real-time record has keeps its range and its samples
+-- a slot that no record has keeps its word; one that no record with MAG has keeps its range and its samples
 words-stay : (fs : List Kept) (m : Major) (i : ℕ) → Free slot i fs → getD (majorFrom m fs .words) i 0 ≡ getD (m .words) i 0
 unfolding majorFrom majorWith into Every
 words-stay [] m i n = refl
 words-stay (f ∷ fs) m i n = words-stay fs (majorWith f m) i (n .1) ∙ getD-set-other (m .words) (slot f) i (recordOf (f .bytes) .subcom) 0 (λ e. n .0 (sym e))
 
-ranges-stay : (fs : List Kept) (m : Major) (i : ℕ) → Free slot i (reals fs) → getD (majorFrom m fs .ranges) i 0 ≡ getD (m .ranges) i 0
-unfolding majorFrom majorWith into Every reals
+ranges-stay : (fs : List Kept) (m : Major) (i : ℕ) → Free slot i (mags fs) → getD (majorFrom m fs .ranges) i 0 ≡ getD (m .ranges) i 0
+unfolding majorFrom majorWith into Every those
 ranges-stay [] m i n = refl
-ranges-stay (f ∷ fs) m i n = go (realTime (f .bytes)) refl (λ k. ranges-stay fs (majorWith f m) i k)
+ranges-stay (f ∷ fs) m i n = go (hasMag f) refl (λ k. ranges-stay fs (majorWith f m) i k)
   where
-    go : (t : Bool) → realTime (f .bytes) ≡ t → (Free slot i (reals fs) → getD (majorFrom (majorWith f m) fs .ranges) i 0 ≡ getD (majorWith f m .ranges) i 0)
+    go : (t : Bool) → hasMag f ≡ t → (Free slot i (mags fs) → getD (majorFrom (majorWith f m) fs .ranges) i 0 ≡ getD (majorWith f m .ranges) i 0)
         → getD (majorFrom (majorWith f m) fs .ranges) i 0 ≡ getD (m .ranges) i 0
     go true e r =
-        let k : Free slot i (f ∷ reals fs) = rw e at n in
+        let k : Free slot i (f ∷ mags fs) = rw e at n in
         r (k .1) ∙ rw e (getD-set-other (m .ranges) (slot f) i (range (magBytes (packet f))) 0 (λ e. k .0 (sym e)))
     go false e r = r (rw e at n) ∙ rw e
 
@@ -85,38 +85,38 @@ module _ (f : Kept) (s : List ℤ) (e : length s ≡ frameSamples) where
 
   laid-length : length (samplesWith f s) ≡ frameSamples
   unfolding samplesWith
-  laid-length = go (realTime (f .bytes))
+  laid-length = go (hasMag f)
     where
       go : (t : Bool) → length (cond t (patch s (samplesSize * slot f) own) s) ≡ frameSamples
       go true = length-patch s (samplesSize * slot f) own fits ∙ e
       go false = e
 
-  laid-own : (k : ℕ) → realTime (f .bytes) ≡ true → k < samplesSize → getD (samplesWith f s) (samplesSize * slot f + k) (pos 0) ≡ sample (magBytes (packet f)) k
+  laid-own : (k : ℕ) → hasMag f ≡ true → k < samplesSize → getD (samplesWith f s) (samplesSize * slot f + k) (pos 0) ≡ sample (magBytes (packet f)) k
   unfolding samplesWith
   laid-own k r h = rw r (patch-in s (samplesSize * slot f) own fits k (pos 0) (rw (length-build (sample (magBytes (packet f))) samplesSize) h) ∙ getD-build (sample (magBytes (packet f))) samplesSize k (pos 0) h)
 
-  laid-other : (i k : ℕ) → (realTime (f .bytes) ≡ true → slot f ≡ i → ⊥) → k < samplesSize → getD (samplesWith f s) (samplesSize * i + k) (pos 0) ≡ getD s (samplesSize * i + k) (pos 0)
+  laid-other : (i k : ℕ) → (hasMag f ≡ true → slot f ≡ i → ⊥) → k < samplesSize → getD (samplesWith f s) (samplesSize * i + k) (pos 0) ≡ getD s (samplesSize * i + k) (pos 0)
   unfolding samplesWith
-  laid-other i k n h = go (realTime (f .bytes)) refl (ltb i (slot f)) refl
+  laid-other i k n h = go (hasMag f) refl (ltb i (slot f)) refl
     where
       size : length own ≡ samplesSize
       size = length-build (sample (magBytes (packet f))) samplesSize
 
-      go : (t : Bool) → realTime (f .bytes) ≡ t → (b : Bool) → ltb i (slot f) ≡ b → getD (cond t (patch s (samplesSize * slot f) own) s) (samplesSize * i + k) (pos 0) ≡ getD s (samplesSize * i + k) (pos 0)
+      go : (t : Bool) → hasMag f ≡ t → (b : Bool) → ltb i (slot f) ≡ b → getD (cond t (patch s (samplesSize * slot f) own) s) (samplesSize * i + k) (pos 0) ≡ getD s (samplesSize * i + k) (pos 0)
       go false t b q = refl
       go true t true q = patch-left s (samplesSize * slot f) own fits (samplesSize * i + k) (pos 0) (omega (arith, ltb-true i (slot f) q))
       go true t false q =
           let d : slot f ≡ i → ⊥ = n t in
           patch-right s (samplesSize * slot f) own fits (samplesSize * i + k) (pos 0) (omega (arith, ltb-false i (slot f) q, size))
 
-samples-stay : (fs : List Kept) (s : List ℤ) (i k : ℕ) → length s ≡ frameSamples → Free slot i (reals fs) → k < samplesSize → getD (samplesFrom s fs) (samplesSize * i + k) (pos 0) ≡ getD s (samplesSize * i + k) (pos 0)
-unfolding samplesFrom Every reals
+samples-stay : (fs : List Kept) (s : List ℤ) (i k : ℕ) → length s ≡ frameSamples → Free slot i (mags fs) → k < samplesSize → getD (samplesFrom s fs) (samplesSize * i + k) (pos 0) ≡ getD s (samplesSize * i + k) (pos 0)
+unfolding samplesFrom Every those
 samples-stay [] s i k e n h = refl
-samples-stay (f ∷ fs) s i k e n h = go (realTime (f .bytes)) refl (λ q. samples-stay fs (samplesWith f s) i k (laid-length f s e) q h)
+samples-stay (f ∷ fs) s i k e n h = go (hasMag f) refl (λ q. samples-stay fs (samplesWith f s) i k (laid-length f s e) q h)
   where
-    go : (t : Bool) → realTime (f .bytes) ≡ t → (Free slot i (reals fs) → getD (samplesFrom (samplesWith f s) fs) (samplesSize * i + k) (pos 0) ≡ getD (samplesWith f s) (samplesSize * i + k) (pos 0))
+    go : (t : Bool) → hasMag f ≡ t → (Free slot i (mags fs) → getD (samplesFrom (samplesWith f s) fs) (samplesSize * i + k) (pos 0) ≡ getD (samplesWith f s) (samplesSize * i + k) (pos 0))
         → getD (samplesFrom (samplesWith f s) fs) (samplesSize * i + k) (pos 0) ≡ getD s (samplesSize * i + k) (pos 0)
-    go true t r = let q : Free slot i (f ∷ reals fs) = rw t at n in r (q .1) ∙ laid-other f s e i k (λ z. q .0) h
+    go true t r = let q : Free slot i (f ∷ mags fs) = rw t at n in r (q .1) ∙ laid-other f s e i k (λ z. q .0) h
     go false t r = r (rw t at n) ∙ laid-other f s e i k (λ z. absurd (false≢true (sym t ∙ z))) h
 
 -- what a major frame has before the records fs are put in, all of major number n, their slots from low on
@@ -145,9 +145,9 @@ module _ (f : Kept) (fs : List Kept) (n low : ℕ) (m : Major) (s : List ℤ) (b
     rising = b .rising .1;
     numbered = b .numbered .1;
     slots = fits-more slot f low (m .slots) (b .slots) (b .rising .0);
-    mags = mags-fit (realTime (f .bytes));
+    mags = mags-fit (hasMag f);
     words = simp length-set (b .words);
-    ranges = ranges-fit (realTime (f .bytes));
+    ranges = ranges-fit (hasMag f);
     samples = laid-length f s (b .samples);
   }
     where
@@ -159,18 +159,18 @@ module _ (f : Kept) (fs : List Kept) (n low : ℕ) (m : Major) (s : List ℤ) (b
       ranges-fit true = simp length-set (b .ranges)
       ranges-fit false = b .ranges
 
-  own-range : realTime (f .bytes) ≡ true → getD (majorWith f m .ranges) (slot f) 0 ≡ range (magBytes (packet f))
+  own-range : hasMag f ≡ true → getD (majorWith f m .ranges) (slot f) 0 ≡ range (magBytes (packet f))
   unfolding majorWith into
   own-range real = rw real (getD-set-same (m .ranges) (slot f) (range (magBytes (packet f))) 0 (omega (arith, b .ranges)))
 
-  first-sampled : realTime (f .bytes) ≡ true → Sampled f (over m s (f ∷ fs))
+  first-sampled : hasMag f ≡ true → Sampled f (over m s (f ∷ fs))
   unfolding majorFrom samplesFrom
   first-sampled real =
-      let r : Rising slot low (f ∷ reals fs) = subst (Rising slot low) (reals-more f fs real) (rising-reals slot (f ∷ fs) low (b .rising)) in
+      let r : Rising slot low (f ∷ mags fs) = subst (Rising slot low) (those-more hasMag f fs real) (rising-those hasMag slot (f ∷ fs) low (b .rising)) in
       record {
-        marked = rw (mags-are (f ∷ fs) m, reals-more f fs real) (marks-first slot f (reals fs) low (m .«mag_slots») (b .mags) r);
-        ranged = ranges-stay fs (majorWith f m) (slot f) (every-reals _ fs free) ∙ own-range real;
-        samples = λ k h. samples-stay fs (samplesWith f s) (slot f) k (laid-length f s (b .samples)) (every-reals _ fs free) h ∙ laid-own f s (b .samples) k real h;
+        marked = rw (mags-are (f ∷ fs) m, those-more hasMag f fs real) (marks-first slot f (mags fs) low (m .«mag_slots») (b .mags) r);
+        ranged = ranges-stay fs (majorWith f m) (slot f) (every-those hasMag _ fs free) ∙ own-range real;
+        samples = λ k h. samples-stay fs (samplesWith f s) (slot f) k (laid-length f s (b .samples)) (every-those hasMag _ fs free) h ∙ laid-own f s (b .samples) k real h;
       }
 
   first-slotted : Slotted f (over m s (f ∷ fs))
@@ -214,7 +214,7 @@ major-filled f fs l =
     } in
     record {
       held = rw (slots-are g noMajor) (marks-count slot g 0 0 (pow-pos 0) r ∙ zero-add (length g));
-      mags = rw (mags-are g noMajor) (marks-count slot (reals g) 0 0 (pow-pos 0) (rising-reals slot g 0 r) ∙ zero-add (length (reals g)));
+      mags = rw (mags-are g noMajor) (marks-count slot (mags g) 0 0 (pow-pos 0) (rising-those hasMag slot g 0 r) ∙ zero-add (length (mags g)));
       shaped = all-shaped g (major f) 0 noMajor noSamples (omega arith) b;
       size = samples-length g noSamples (b .samples);
       own = all-slotted g (major f) 0 noMajor noSamples b;
@@ -223,7 +223,7 @@ major-filled f fs l =
         word = words-stay g noMajor i n ∙ getD-replicate {A = ℕ} 16 i 0 0 h;
       };
       no-mag = λ i h n. record {
-        unmarked = rw (mags-are g noMajor) (marks-stay slot (reals g) 0 0 i (pow-pos 0) (rising-reals slot g 0 r) n ∙ bits-above 0 i (pow-pos i));
+        unmarked = rw (mags-are g noMajor) (marks-stay slot (mags g) 0 0 i (pow-pos 0) (rising-those hasMag slot g 0 r) n ∙ bits-above 0 i (pow-pos i));
         ranged = ranges-stay g noMajor i n ∙ getD-replicate {A = ℕ} 16 i 0 0 h;
         samples = λ k j. samples-stay g noSamples i k (b .samples) n j ∙ getD-replicate {A = ℤ} frameSamples (samplesSize * i + k) (pos 0) (pos 0) (omega arith);
       };

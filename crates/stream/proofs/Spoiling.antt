@@ -10,7 +10,8 @@ use Rattle.record.specs.Rules.{broken}
 use Rattle.state.specs.Deciding.{stateHolds, answerNumber}
 use Rattle.state.specs.declared.State.{State}
 use Rattle.state.proofs.Numbers.{number-is}
-use Rattle.reader.specs.Steps.{Buffers, input}
+use Rattle.reader.specs.Buffers.{Buffers}
+use Rattle.reader.specs.Steps.{input}
 use Rattle.stream.specs.Running.{called, traceOf, run}
 use Rattle.stream.specs.Sending.{Fate, kept, removed, extra, fed, ExtraRefused, ExtraBroken}
 use Rattle.stream.proofs.Runs.{answered}

@@ -86,7 +86,7 @@ after : Kept
 after = record { bytes = made 137 6; serial = 6; lost = 36 }
 
 are-kept : realUnspoiled 5 stream ≡ before ∷ after ∷ []
-unfolding stream keptOf reals before after
+unfolding stream keptOf those before after
 are-kept = rw (real-five 100, lose-kept 36 101 6 0 (kept (made 137 6) ∷ []), real-six 137)
 
 fed-stream : Stream 100 5 stream lent (run fresh lent (fed stream))

@@ -7,13 +7,13 @@ use Prim.Native.Nat.{ℕ, _+_, _-_, _/_, _<_, _≤_}
 use lib.Dec.{eqb}
 use Rattle.record.specs.Contents.{recordOf}
 use Rattle.carriage.specs.Carriage.{types}
-use Rattle.state.specs.Accumulation.{most}
-use Rattle.state.specs.Major.{majorNumber}
+use Rattle.accumulation.specs.Accumulation.{most}
+use Rattle.major.specs.Major.{majorNumber}
 use Rattle.stream.specs.Lists.{Cut, total}
 use Rattle.stream.specs.Sending.{Kept}
 
 abbrev pub at : Kept → ℕ
-at f = recordOf (f .bytes) .count
+at f = f .count
 
 abbrev pub typeOf : Kept → ℕ
 typeOf f = recordOf (f .bytes) .«frame_type»

@@ -11,7 +11,7 @@ use Rattle.listing.specs.Lines.{cellsHeld, slotsHeld, samplesHeld}
 use Rattle.state.specs.Keeping.{Sound}
 use Rattle.stream.specs.Lists.{Pairwise, flat, sum}
 use Rattle.stream.specs.Running.{Trace, accumulations, majors, states}
-use Rattle.stream.specs.Sending.{Fate, KeptAccepted, Kept, unspoiled, realUnspoiled}
+use Rattle.stream.specs.Sending.{Fate, KeptAccepted, Kept, unspoiled, realUnspoiled, magUnspoiled}
 use Rattle.stream.specs.Cutting.{AccumulationCut, MajorCut}
 use Rattle.stream.specs.Filling.{Filled, MajorFilled}
 
@@ -25,24 +25,24 @@ samplesListed t = sum (λ m. samplesHeld (m .frame)) (majors t)
 abbrev pub slotsListed : Trace → ℕ
 slotsListed t = sum (λ m. slotsHeld (m .frame)) (majors t)
 
--- of fates, with real-time number k first, and the trace of what was fed (proved as `demand-3` in proofs/Demand.antt)
-pub record Demand3 (k : ℕ) (xs : List Fate) (t : Trace) : Type 0 where
+-- of fates, from count c and real-time number k on, and the trace of what was fed (proved as `demand-3` in proofs/Demand.antt)
+pub record Demand3 (c k : ℕ) (xs : List Fate) (t : Trace) : Type 0 where
   -- every kept record is accepted
   pub accepted : KeptAccepted xs t
   -- the accumulations handed out are the kept real-time records, in order, each once, cut as `AccumulationCut` says; each
   -- holds the bytes of its own records in their places, and 0 in all others
   pub parts : List (List Kept)
-  pub parts-whole : flat parts ≡ realUnspoiled k xs
+  pub parts-whole : flat parts ≡ realUnspoiled c k xs
   pub parts-cut : AccumulationCut parts
   pub parts-out : Pairwise Filled parts (accumulations t)
   -- the major frames handed out are the kept records, likewise
   pub major-parts : List (List Kept)
-  pub major-whole : flat major-parts ≡ unspoiled k xs
+  pub major-whole : flat major-parts ≡ unspoiled c k xs
   pub major-cut : MajorCut major-parts
   pub major-out : Pairwise MajorFilled major-parts (majors t)
-  -- the listing's numbers sum to 83 and 54 times the real-time frames left, and to the records left
-  pub cells-sum : cellsListed t ≡ scienceSize * length (realUnspoiled k xs)
-  pub samples-sum : samplesListed t ≡ samplesSize * length (realUnspoiled k xs)
-  pub slots-sum : slotsListed t ≡ length (unspoiled k xs)
+  -- the listing's numbers sum to 83 times the real-time frames left, 54 times those with MAG, and the records left
+  pub cells-sum : cellsListed t ≡ scienceSize * length (realUnspoiled c k xs)
+  pub samples-sum : samplesListed t ≡ samplesSize * length (magUnspoiled c k xs)
+  pub slots-sum : slotsListed t ≡ length (unspoiled c k xs)
   -- "The state list" is kept throughout
   pub states-sound : Every Sound (states t)

@@ -14,10 +14,10 @@ use Rattle.record.specs.Contents.{recordOf}
 use Rattle.mag.specs.Samples.{samplesSize, range, sample}
 use Rattle.carriage.specs.Carriage.{types, scienceSize, place}
 use Rattle.cells.specs.Laying.{cellsSize, topPair, pairAt}
-use Rattle.state.specs.Major.{slots, frameSamples, slotOf}
-use Rattle.state.specs.Keeping.{Shaped}
+use Rattle.major.specs.Major.{slots, frameSamples, slotOf}
+use Rattle.major.specs.Shape.{Shaped}
 use Rattle.stream.specs.Running.{ClosedAccumulation, ClosedMajor}
-use Rattle.stream.specs.Sending.{realTime, Kept, reals}
+use Rattle.stream.specs.Sending.{Kept, hasMag, mags}
 use Rattle.stream.specs.Cutting.{at, typeOf, major}
 
 -- the packet of a kept record
@@ -53,18 +53,18 @@ pub record Filled (g : List Kept) (a : ClosedAccumulation) : Type 0 where
 abbrev pub slot : Kept → ℕ
 slot f = slotOf (at f)
 
--- the mark, the range and the 54 samples of a real-time record
+-- the mark, the range and the 54 samples of a record with MAG
 pub record Sampled (f : Kept) (m : ClosedMajor) : Type 0 where
   pub marked : bitSet (m .frame .«mag_slots») (slot f) ≡ true
   pub ranged : getD (m .frame .ranges) (slot f) 0 ≡ range (magBytes (packet f))
   pub samples : (k : ℕ) → k < samplesSize → getD (m .samples) (samplesSize * slot f + k) (pos 0) ≡ sample (magBytes (packet f)) k
 
--- a record in its slot: its subcom word and, of a real-time one, its MAG
+-- a record in its slot: its subcom word, and its MAG where it carries it
 pub record Slotted (f : Kept) (m : ClosedMajor) : Type 0 where
   pub number : m .frame .number ≡ major f
   pub held : bitSet (m .frame .slots) (slot f) ≡ true
   pub word : getD (m .frame .words) (slot f) 0 ≡ recordOf (f .bytes) .subcom
-  pub mag : realTime (f .bytes) ≡ true → Sampled f m
+  pub mag : hasMag f ≡ true → Sampled f m
 
 -- a slot that isn't there
 pub record NoSlot (i : ℕ) (m : ClosedMajor) : Type 0 where
@@ -80,9 +80,9 @@ pub record NoMag (i : ℕ) (m : ClosedMajor) : Type 0 where
 -- the major frame that holds just these records
 pub record MajorFilled (g : List Kept) (m : ClosedMajor) : Type 0 where
   pub held : ones (m .frame .slots) ≡ length g
-  pub mags : ones (m .frame .«mag_slots») ≡ length (reals g)
+  pub mags : ones (m .frame .«mag_slots») ≡ length (mags g)
   pub shaped : Shaped (m .frame)
   pub size : length (m .samples) ≡ frameSamples
   pub own : Every (λ f. Slotted f m) g
   pub no-slot : (i : ℕ) → i < slots → Every (λ f. slot f ≡ i → ⊥) g → NoSlot i m
-  pub no-mag : (i : ℕ) → i < slots → Every (λ f. slot f ≡ i → ⊥) (reals g) → NoMag i m
+  pub no-mag : (i : ℕ) → i < slots → Every (λ f. slot f ≡ i → ⊥) (mags g) → NoMag i m

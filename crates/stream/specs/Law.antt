@@ -4,7 +4,7 @@ use mathlib.Core.List.{List}
 use Prim.Native.Nat.{ℕ}
 use Rattle.state.specs.List.{fresh}
 use Rattle.state.specs.declared.State.{State}
-use Rattle.reader.specs.Steps.{Buffers}
+use Rattle.reader.specs.Buffers.{Buffers}
 use Rattle.stream.specs.Running.{Reader, Trace, traceOf, StepAllowed, EndAllowed, Allowed}
 use Rattle.stream.specs.Sending.{Fate, fed, Stream}
 use Rattle.stream.specs.Demand.{Demand3}
@@ -13,7 +13,7 @@ use Rattle.stream.specs.Once.{OnceEach}
 -- "feed what remains in order to a fresh reader with buffers of the right sizes, each handed on as the last call left it, and
 -- finish once. Then ...": proved as `law` in proofs/Law.antt
 abbrev pub DemandLaw : Type 0
-DemandLaw = (xs : List Fate) (b : Buffers) (c k : ℕ) (t : Trace) → Stream c k xs b t → Allowed fresh b (fed xs) t → Demand3 k xs t × OnceEach k xs t
+DemandLaw = (xs : List Fate) (b : Buffers) (c k : ℕ) (t : Trace) → Stream c k xs b t → Allowed fresh b (fed xs) t → Demand3 c k xs t × OnceEach c k xs t
 
 -- a reader that keeps the promises of `reader::step` and `reader::finish`, and one that meets demand 3: who keeps them meets it
 -- (`meets`), and the reader of the definitions keeps them (`defined-keeps`)
@@ -23,4 +23,4 @@ pub record Keeps (R : Reader) : Type 0 where
 
 abbrev pub Meets : Reader → Type 0
 Meets R = (xs : List Fate) (b : Buffers) (c k : ℕ) → Stream c k xs b (traceOf R fresh b (fed xs))
-    → Demand3 k xs (traceOf R fresh b (fed xs)) × OnceEach k xs (traceOf R fresh b (fed xs))
+    → Demand3 c k xs (traceOf R fresh b (fed xs)) × OnceEach c k xs (traceOf R fresh b (fed xs))

@@ -14,10 +14,10 @@ use Rattle.record.specs.Layout.{frameCode, scienceBytes}
 use Rattle.carriage.specs.Carriage.{types, scienceSize, cells, carrier, byteOf}
 use Rattle.cells.specs.Laying.{topPair, pairAt}
 use Rattle.cells.specs.Raw.{holdsCell}
-use Rattle.state.specs.Major.{slots}
+use Rattle.major.specs.Major.{slots}
 use Rattle.stream.specs.Lists.{Some, ExactlyOne, Neighbours, sum, total}
 use Rattle.stream.specs.Running.{Trace, ClosedAccumulation, ClosedMajor, accumulations, majors}
-use Rattle.stream.specs.Sending.{Fate, Kept, reals, unspoiled, realUnspoiled}
+use Rattle.stream.specs.Sending.{Fate, Kept, mags, unspoiled, realUnspoiled}
 use Rattle.stream.specs.Cutting.{at, typeOf, round, unaccepted, tears, major}
 use Rattle.stream.specs.Filling.{packet, Stands, slot, Sampled, Slotted, NoSlot, NoMag}
 
@@ -62,23 +62,23 @@ OwnMajor f m = (m .frame .number ≡ major f) × (bitSet (m .frame .slots) (slot
 pub record UnmixedMajor (fs : List Kept) (m : ClosedMajor) : Type 0 where
   pub held : (i : ℕ) → i < slots → bitSet (m .frame .slots) i ≡ true → Some (λ f. (slot f ≡ i) × Slotted f m) fs
   pub unheld : (i : ℕ) → i < slots → bitSet (m .frame .slots) i ≡ false → NoSlot i m
-  pub marked : (i : ℕ) → i < slots → bitSet (m .frame .«mag_slots») i ≡ true → Some (λ f. (slot f ≡ i) × (major f ≡ m .frame .number) × Sampled f m) (reals fs)
+  pub marked : (i : ℕ) → i < slots → bitSet (m .frame .«mag_slots») i ≡ true → Some (λ f. (slot f ≡ i) × (major f ≡ m .frame .number) × Sampled f m) (mags fs)
   pub unmarked : (i : ℕ) → i < slots → bitSet (m .frame .«mag_slots») i ≡ false → NoMag i m
 
 -- proved as `once-each` in proofs/Once.antt
-pub record OnceEach (k : ℕ) (xs : List Fate) (t : Trace) : Type 0 where
+pub record OnceEach (c k : ℕ) (xs : List Fate) (t : Trace) : Type 0 where
   -- "every real-time frame left unspoiled has each of its 83 science bytes in exactly one cell, its own"
-  pub one : Every (λ f. ExactlyOne (Own (realUnspoiled k xs) f) (accumulations t)) (realUnspoiled k xs)
-  pub there : Every (λ f. Every (λ a. Own (realUnspoiled k xs) f a → Stands f a) (accumulations t)) (realUnspoiled k xs)
+  pub one : Every (λ f. ExactlyOne (Own (realUnspoiled c k xs) f) (accumulations t)) (realUnspoiled c k xs)
+  pub there : Every (λ f. Every (λ a. Own (realUnspoiled c k xs) f a → Stands f a) (accumulations t)) (realUnspoiled c k xs)
   -- "no accumulation handed out holds bytes of two that were sent"
-  pub unmixed : Every (Unmixed (realUnspoiled k xs)) (accumulations t)
+  pub unmixed : Every (Unmixed (realUnspoiled c k xs)) (accumulations t)
   -- "a sent one is torn in two only where 36 or more counts weren't accepted between two neighbouring accepted real-time frames":
   -- some accumulation is both's, or so many weren't
-  pub torn : (p f : Kept) → Neighbours p f (realUnspoiled k xs) → round p ≡ round f
-      → Some (λ a. Own (realUnspoiled k xs) p a × Own (realUnspoiled k xs) f a) (accumulations t) ⊎ (tears ≤ unaccepted (unspoiled k xs) (at p) (at f))
+  pub torn : (p f : Kept) → Neighbours p f (realUnspoiled c k xs) → round p ≡ round f
+      → Some (λ a. Own (realUnspoiled c k xs) p a × Own (realUnspoiled c k xs) f a) (accumulations t) ⊎ (tears ≤ unaccepted (unspoiled c k xs) (at p) (at f))
   -- "the cells filled number 83 times the real-time frames left unspoiled"
-  pub filled : cellsFilled (realUnspoiled k xs) t ≡ scienceSize * length (realUnspoiled k xs)
+  pub filled : cellsFilled (realUnspoiled c k xs) t ≡ scienceSize * length (realUnspoiled c k xs)
   -- and every kept record in its major frame and slot
-  pub one-major : Every (λ f. ExactlyOne (OwnMajor f) (majors t)) (unspoiled k xs)
-  pub there-major : Every (λ f. Every (λ m. OwnMajor f m → Slotted f m) (majors t)) (unspoiled k xs)
-  pub unmixed-major : Every (UnmixedMajor (unspoiled k xs)) (majors t)
+  pub one-major : Every (λ f. ExactlyOne (OwnMajor f) (majors t)) (unspoiled c k xs)
+  pub there-major : Every (λ f. Every (λ m. OwnMajor f m → Slotted f m) (majors t)) (unspoiled c k xs)
+  pub unmixed-major : Every (UnmixedMajor (unspoiled c k xs)) (majors t)

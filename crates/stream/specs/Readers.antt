@@ -7,15 +7,15 @@ use mathlib.Core.List.{List}
 use Prim.Native.Nat.{ℕ, _<_, _≤_}
 use Rattle.tables.specs.Every.{Every}
 use Rattle.listing.specs.Lines.{framesHeld}
-use Rattle.state.specs.Accumulation.{unreported}
+use Rattle.accumulation.specs.Accumulation.{unreported}
 use Rattle.state.specs.Deciding.{answerNumber}
 use Rattle.state.specs.List.{fresh}
 use Rattle.state.specs.declared.State.{State}
-use Rattle.state.specs.declared.accumulation.Gap.the-variants.{Joins}
+use Rattle.accumulation.specs.declared.Gap.the-variants.{Joins}
 use Rattle.state.specs.declared.deciding.Answer.{Answer}
 use Rattle.state.specs.declared.deciding.Answer.the-variants.{Accepted}
 use Rattle.state.specs.declared.deciding.Taken.{Taken}
-use Rattle.reader.specs.Steps.{Buffers}
+use Rattle.reader.specs.Buffers.{Buffers}
 use Rattle.stream.specs.Running.{Reader, traceOf, accumulations}
 use Rattle.stream.specs.Demand.{cellsListed}
 
@@ -37,7 +37,7 @@ pub record StoresNothing (R : Reader) : Type 0 where
 pub record Nods (R : Reader) : Type 0 where
   pub state : (b : Buffers) (r x : List ℕ) → answerNumber (R .steps fresh b r .result .answer) ≡ 0 → R .steps (R .steps fresh b r .result .state) (R .steps fresh b r .left) x .result .state ≡ R .steps fresh b r .result .state
   pub left : (b : Buffers) (r x : List ℕ) → answerNumber (R .steps fresh b r .result .answer) ≡ 0 → R .steps (R .steps fresh b r .result .state) (R .steps fresh b r .left) x .left ≡ R .steps fresh b r .left
-  pub closes : (b : Buffers) (r x : List ℕ) → answerNumber (R .steps fresh b r .result .answer) ≡ 0 → R .steps (R .steps fresh b r .result .state) (R .steps fresh b r .left) x .result .accumulation ≡ unreported
+  pub closes : (b : Buffers) (r x : List ℕ) → answerNumber (R .steps fresh b r .result .answer) ≡ 0 → R .steps (R .steps fresh b r .result .state) (R .steps fresh b r .left) x .result .closed .accumulation ≡ unreported
 
 -- "One that never joins": by demand 2 it never says so, by demand 3 no accumulation that it hands out has two frames
 abbrev pub NeverSaysJoins : Reader → Type 0

@@ -7,12 +7,13 @@ use lib.IntN.{ℤ}
 use Rattle.state.specs.Deciding.{decidedOf}
 use Rattle.state.specs.Ending.{endedOf}
 use Rattle.state.specs.declared.State.{State}
-use Rattle.state.specs.declared.accumulation.AccumulationReport.{AccumulationReport}
+use Rattle.accumulation.specs.declared.AccumulationReport.{AccumulationReport}
 use Rattle.state.specs.declared.deciding.Stepped.{Stepped}
 use Rattle.state.specs.declared.ending.Finished.{Finished}
-use Rattle.state.specs.declared.major.Major.{Major}
-use Rattle.state.specs.declared.major.MajorReport.{MajorReport}
-use Rattle.reader.specs.Steps.{Buffers, sized, input, stepped, ended, StepIs, FinishIs}
+use Rattle.major.specs.declared.Major.{Major}
+use Rattle.major.specs.declared.MajorReport.{MajorReport}
+use Rattle.reader.specs.Buffers.{Buffers, sized}
+use Rattle.reader.specs.Steps.{input, stepped, ended, StepIs, FinishIs}
 
 -- a call of step: what it answers, and the four buffers as it leaves them
 pub record Call : Type 0 where
@@ -51,14 +52,10 @@ run s b rs = traceOf defined s b rs
 
 -- What the promises themselves allow at each call. It is `run` and nothing else: `only-run`, `run-allowed` in proofs/Runs.antt.
 abbrev pub StepAllowed : State → Buffers → List ℕ → Call → Type 0
-StepAllowed s b r c =
-    StepIs s (b .openCells) (b .finishedCells) (b .openSamples) (b .finishedSamples) r
-    (c .result) (c .left .openCells) (c .left .finishedCells) (c .left .openSamples) (c .left .finishedSamples)
+StepAllowed s b r c = StepIs s b r (c .result) (c .left)
 
 abbrev pub EndAllowed : State → Buffers → End → Type 0
-EndAllowed s b e =
-    FinishIs s (b .openCells) (b .finishedCells) (b .openSamples) (b .finishedSamples)
-    (e .result) (e .left .openCells) (e .left .finishedCells) (e .left .openSamples) (e .left .finishedSamples)
+EndAllowed s b e = FinishIs s b (e .result) (e .left)
 
 unfoldable pub Allowed : State → Buffers → List (List ℕ) → Trace → Type 0
 Allowed s b [] (finish e) = EndAllowed s b e
@@ -82,12 +79,12 @@ abbrev pub majorOut : MajorReport → List ℤ → List ClosedMajor
 majorOut r s = cond (r .closed) (record { frame = r .frame; samples = s } ∷ []) []
 
 unfoldable pub accumulations : Trace → List ClosedAccumulation
-accumulations (step c t) = accumulationOut (c .result .accumulation) (c .left .finishedCells) ++ accumulations t
-accumulations (finish e) = accumulationOut (e .result .accumulation) (e .left .finishedCells)
+accumulations (step c t) = accumulationOut (c .result .closed .accumulation) (c .left .finishedCells) ++ accumulations t
+accumulations (finish e) = accumulationOut (e .result .closed .accumulation) (e .left .finishedCells)
 
 unfoldable pub majors : Trace → List ClosedMajor
-majors (step c t) = majorOut (c .result .major) (c .left .finishedSamples) ++ majors t
-majors (finish e) = majorOut (e .result .major) (e .left .finishedSamples)
+majors (step c t) = majorOut (c .result .closed .major) (c .left .finishedSamples) ++ majors t
+majors (finish e) = majorOut (e .result .closed .major) (e .left .finishedSamples)
 
 -- each state that is handed back, the end state last
 unfoldable pub states : Trace → List State

@@ -8,13 +8,18 @@ use Rattle.bits.specs.Twelve.{Bytes}
 use Rattle.record.specs.Rules.{broken}
 use Rattle.record.specs.Contents.{recordOf}
 use Rattle.carriage.specs.Carriage.{types}
-use Rattle.state.specs.Deciding.{isRealTime, answerNumber}
+use Rattle.record.specs.Frame.{isRealTime, carriesMag}
+use Rattle.state.specs.Deciding.{answerNumber}
 use Rattle.state.specs.Ending.{endingNumber}
-use Rattle.reader.specs.Steps.{Buffers, sized}
+use Rattle.reader.specs.Buffers.{Buffers, sized}
 use Rattle.stream.specs.Running.{Trace, step, finish}
 
 abbrev pub realTime : List ℕ → Bool
 realTime r = isRealTime (recordOf r .kind)
+
+-- the count that a record has of itself: from here on a kept record has the count at which it was sent
+unfoldable pub sentCount : List ℕ → ℕ
+sentCount r = recordOf r .count
 
 -- "records that pass rules 2 to 11: counts rising by one without wrapping, real-time types 0 to 35 in order round and round,
 -- defined other types anywhere between": the bytes r, sent at count c, the next real-time record having number k and so type k
@@ -22,7 +27,7 @@ realTime r = isRealTime (recordOf r .kind)
 pub record SentAt (c k : ℕ) (r : List ℕ) : Type 0 where
   pub bytes : Bytes r
   pub passes : broken r ≡ 0
-  pub counted : recordOf r .count ≡ c
+  pub counted : sentCount r ≡ c
   pub typed : realTime r ≡ true → recordOf r .«frame_type» ≡ k % types
 
 -- the number of the next real-time record, once r was sent
@@ -84,28 +89,45 @@ KeptAccepted (removed r ∷ xs) t = KeptAccepted xs t
 KeptAccepted (extra x ∷ xs) (step c t) = KeptAccepted xs t
 KeptAccepted (extra x ∷ xs) (finish e) = ⊥
 
--- A kept record and its place: its real-time number (of an other record, that of the next real-time one), and how many sent
--- before it were not kept.
+-- A kept record and its place: the count at which it was sent, its real-time number (of an other record, that of the next
+-- real-time one), and how many sent before it were not kept.
 pub record Kept : Type 0 where
   pub bytes : List ℕ
+  pub count : ℕ
   pub serial : ℕ
   pub lost : ℕ
 
--- those kept, in order, with real-time number k next and l lost so far
-unfoldable pub keptOf : ℕ → ℕ → List Fate → List Kept
-keptOf k l [] = []
-keptOf k l (kept r ∷ xs) = record { bytes = r; serial = k; lost = l } ∷ keptOf (next k r) l xs
-keptOf k l (removed r ∷ xs) = keptOf (next k r) (l + 1) xs
-keptOf k l (extra x ∷ xs) = keptOf k l xs
+-- those kept, in order, with count c and real-time number k next and l lost so far
+unfoldable pub keptOf : ℕ → ℕ → ℕ → List Fate → List Kept
+keptOf c k l [] = []
+keptOf c k l (kept r ∷ xs) = record { bytes = r; count = c; serial = k; lost = l } ∷ keptOf (c + 1) (next k r) l xs
+keptOf c k l (removed r ∷ xs) = keptOf (c + 1) (next k r) (l + 1) xs
+keptOf c k l (extra x ∷ xs) = keptOf c k l xs
 
--- the real-time ones among them
-unfoldable pub reals : List Kept → List Kept
-reals [] = []
-reals (x ∷ xs) = cond (realTime (x .bytes)) (x ∷ reals xs) (reals xs)
+-- those of them that pass a test
+unfoldable pub those : (Kept → Bool) → List Kept → List Kept
+those p [] = []
+those p (x ∷ xs) = cond (p x) (x ∷ those p xs) (those p xs)
 
--- the records, and "the real-time frames left unspoiled"
-abbrev pub unspoiled : ℕ → List Fate → List Kept
-unspoiled k xs = keptOf k 0 xs
+-- the real-time ones, and those with MAG
+abbrev pub isReal : Kept → Bool
+isReal x = realTime (x .bytes)
 
-abbrev pub realUnspoiled : ℕ → List Fate → List Kept
-realUnspoiled k xs = reals (unspoiled k xs)
+abbrev pub hasMag : Kept → Bool
+hasMag x = carriesMag (recordOf (x .bytes) .kind)
+
+abbrev pub reals : List Kept → List Kept
+reals xs = those isReal xs
+
+abbrev pub mags : List Kept → List Kept
+mags xs = those hasMag xs
+
+-- the records, "the real-time frames left unspoiled", and the records with MAG
+abbrev pub unspoiled : ℕ → ℕ → List Fate → List Kept
+unspoiled c k xs = keptOf c k 0 xs
+
+abbrev pub realUnspoiled : ℕ → ℕ → List Fate → List Kept
+realUnspoiled c k xs = reals (unspoiled c k xs)
+
+abbrev pub magUnspoiled : ℕ → ℕ → List Fate → List Kept
+magUnspoiled c k xs = mags (unspoiled c k xs)

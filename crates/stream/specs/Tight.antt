@@ -5,7 +5,7 @@ use mathlib.Core.List.{List}
 use Prim.Native.Nat.{ℕ, _<_}
 use Rattle.tables.specs.Every.{Every}
 use Rattle.state.specs.List.{fresh}
-use Rattle.reader.specs.Steps.{Buffers}
+use Rattle.reader.specs.Buffers.{Buffers}
 use Rattle.stream.specs.Lists.{Neighbours}
 use Rattle.stream.specs.Running.{run, accumulations}
 use Rattle.stream.specs.Sending.{Fate, fed, Stream, Kept, unspoiled, realUnspoiled}
@@ -22,10 +22,10 @@ pub record TornBy (n : ℕ) : Type 0 where
   pub stream : Stream count serial fates lent (run fresh lent (fed fates))
   pub before : Kept
   pub after : Kept
-  pub neighbours : Neighbours before after (realUnspoiled serial fates)
+  pub neighbours : Neighbours before after (realUnspoiled count serial fates)
   pub one-round : round before ≡ round after
-  pub lost : unaccepted (unspoiled serial fates) (at before) (at after) ≡ n
-  pub apart : Every (λ a. Own (realUnspoiled serial fates) before a → Own (realUnspoiled serial fates) after a → ⊥) (accumulations (run fresh lent (fed fates)))
+  pub lost : unaccepted (unspoiled count serial fates) (at before) (at after) ≡ n
+  pub apart : Every (λ a. Own (realUnspoiled count serial fates) before a → Own (realUnspoiled count serial fates) after a → ⊥) (accumulations (run fresh lent (fed fates)))
 
 -- proved as `tight` in proofs/Tight.antt
 pub record Tight : Type 0 where
