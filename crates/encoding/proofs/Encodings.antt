@@ -17,9 +17,9 @@ use Rattle.tables.proofs.Conds.{two}
 use Rattle.bits.specs.Numbers.{wordIn}
 use Rattle.bits.specs.Twelve.{Bytes}
 use Rattle.state.specs.declared.State.{State}
-use Rattle.state.specs.declared.accumulation.Accumulation.{Accumulation}
-use Rattle.state.specs.declared.clock.Clock.{Clock}
-use Rattle.state.specs.declared.major.Major.{Major}
+use Rattle.accumulation.specs.declared.Accumulation.{Accumulation}
+use Rattle.clock.specs.declared.Clock.{Clock}
+use Rattle.major.specs.declared.Major.{Major}
 use Rattle.state.specs.List.{fresh}
 use Rattle.tables.specs.Build.{build}
 use Rattle.tables.proofs.Built.{length-build, getD-build}

@@ -17,8 +17,8 @@ use Rattle.cells.specs.Words.{said}
 use Rattle.mag.specs.Field.{fieldOf, isSample, hasField, fieldGiven, FieldIs, Answered}
 use Rattle.mag.specs.declared.nominal.Field.{Field}
 use Rattle.mag.specs.declared.nominal.Field.the-variants as field
-use Rattle.state.specs.declared.major.Major.{Major}
-use Rattle.state.specs.Major.{slots, frameSamples}
+use Rattle.major.specs.declared.Major.{Major}
+use Rattle.major.specs.Major.{slots, frameSamples}
 use Rattle.majors.specs.Questions.{stored, isPlace, hasStored, hasNominal, magHeld, slotHeld, sampleSaid, wordSaid, nominalSaid, sampleGiven, wordGiven, nominalGiven, fieldAt, SampleIs, WordIs, NominalIs}
 use Rattle.majors.specs.declared.Nominal.{Nominal}
 use Rattle.majors.specs.declared.Nominal.the-variants as nominal

@@ -11,7 +11,7 @@ use borrow.Author.Tests.{eq-eqb, ne-eqb, leb-true}
 use Rattle.tables.specs.Upto.{both, upto}
 use Rattle.tables.proofs.Upto.{both-left, both-right, upto-at, is-true}
 use Rattle.record.specs.Layout.{size, packetSize, packetBytes, frameType}
-use Rattle.record.specs.Frame.{kindOfType, kindOf, typesOf, KindIs, isRealTime, carriesScience}
+use Rattle.record.specs.Frame.{kindOfType, kindOf, typesOf, KindIs, isRealTime, carriesMag, carriesScience}
 use Rattle.record.specs.Rules.{typeHolds}
 use Rattle.record.specs.declared.frame.Kind.{Kind}
 use Rattle.record.specs.declared.frame.Kind.the-variants.{RealTime, Other, Undefined}
@@ -94,3 +94,10 @@ real-type p e = go (eqb (length p) packetSize) (leb (frameType p) 35) (leb 58 (f
     go true false true t e = absurd (false≢true e)
     go true false false t e = absurd (false≢true e)
     go false b c t e = absurd (false≢true e)
+
+-- those that carry MAG are the real-time ones too
+pub mag-real : (k : Kind) → carriesMag k ≡ isRealTime k
+unfolding carriesMag isRealTime
+mag-real (RealTime t) = refl
+mag-real Other = refl
+mag-real Undefined = refl

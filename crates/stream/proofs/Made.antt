@@ -17,10 +17,10 @@ use Rattle.record.specs.Frame.{kindOf, kindOfType}
 use Rattle.record.specs.Rules.{rules, broken, sizeHolds, syncHolds, spacecraftHolds, rateHolds, spareHolds, dayHolds, millisecondHolds, statusSpareHolds, flagsHold, typeHolds}
 use Rattle.record.specs.Contents.{recordOf}
 use Rattle.cells.specs.Laying.{cellsSize}
-use Rattle.state.specs.Deciding.{isRealTime}
+use Rattle.record.specs.Frame.{isRealTime}
 use Rattle.major.specs.Major.{frameSamples}
 use Rattle.reader.specs.Buffers.{Buffers, buffers, sized}
-use Rattle.stream.specs.Sending.{realTime, SentAt}
+use Rattle.stream.specs.Sending.{sentCount, realTime, SentAt}
 use Rattle.stream.proofs.Calls.{noCells, noSamples}
 use Rattle.stream.proofs.Parts.{Lengths, is-sized}
 
@@ -42,12 +42,12 @@ bytes-of (x ∷ r) t (suc i) = bytes-of r (both-right (ltb x 256) (everyByte r) 
 
 -- what a made record of type t is
 right : ℕ → ℕ → Bool
-right t c = both (everyByte (made c t)) (both (eqb (broken (made c t)) 0) (both (eqb (recordOf (made c t) .count) c) (eqb (recordOf (made c t) .«frame_type») t)))
+right t c = both (everyByte (made c t)) (both (eqb (broken (made c t)) 0) (both (eqb (sentCount (made c t)) c) (eqb (recordOf (made c t) .«frame_type») t)))
 
 pub record Right (c t : ℕ) : Type 0 where
   pub bytes : Bytes (made c t)
   pub passes : broken (made c t) ≡ 0
-  pub counted : recordOf (made c t) .count ≡ c
+  pub counted : sentCount (made c t) ≡ c
   pub typed : recordOf (made c t) .«frame_type» ≡ t
 
 is-right : (c t : ℕ) → T (right t c) → Right c t
@@ -59,13 +59,13 @@ is-right c t h =
     record {
       bytes = bytes-of r (both-left (everyByte r) _ h);
       passes = eqb→eq _ _ (both-left (eqb (broken r) 0) _ a);
-      counted = eqb→eq _ _ (both-left (eqb (recordOf r .count) c) _ b);
-      typed = eqb→eq _ _ (both-right (eqb (recordOf r .count) c) _ b);
+      counted = eqb→eq _ _ (both-left (eqb (sentCount r) c) _ b);
+      typed = eqb→eq _ _ (both-right (eqb (sentCount r) c) _ b);
     }
 
 -- real-time records of types 5 and 6 at counts 100 to 139, and other ones of type 62
 all-right : (i : ℕ) → i < 40 → T (both (right 5 (100 + i)) (both (right 6 (100 + i)) (right 62 (100 + i))))
-unfolding both right made everyByte broken firstBroken rules sizeHolds syncHolds spacecraftHolds rateHolds spareHolds dayHolds millisecondHolds statusSpareHolds flagsHold typeHolds recordOf number join bit bitOf
+unfolding both right made everyByte broken firstBroken rules sizeHolds syncHolds spacecraftHolds rateHolds spareHolds dayHolds millisecondHolds statusSpareHolds flagsHold typeHolds sentCount recordOf number join bit bitOf
 all-right = upto-at (λ i. both (right 5 (100 + i)) (both (right 6 (100 + i)) (right 62 (100 + i)))) 40 tt
 
 module _ (c : ℕ) (l : 100 ≤ c) (h : c < 140) where

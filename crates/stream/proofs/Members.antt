@@ -58,7 +58,7 @@ in-either [] h f i = inr i
 in-either (x ∷ g) h f (inl e) = inl (inl e)
 in-either (x ∷ g) h f (inr i) = ⊎-elim (λ (j : In f g). inl (inr j)) (λ (j : In f h). inr j) (in-either g h f i)
 
--- among the real-time ones
+-- among those that pass a test
 pub those-in : (t : Kept → Bool) (xs : List Kept) (f : Kept) → In f (those t xs) → In f xs × (t f ≡ true)
 unfolding Some those
 those-in t [] f i = absurd i

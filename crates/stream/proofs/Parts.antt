@@ -2,38 +2,40 @@
 -- records alone, each kind by itself.
 -- Assumes nothing.
 use mathlib.Core.Path.{_≡_, refl, ap, subst, subst⁻¹, _∙_}
-use mathlib.Core.Bool.{Bool, true, false, _&&_}
+use mathlib.Core.Bool.{Bool, true, false, cond, _&&_, false≢true}
 use mathlib.Core.List.{List, [], _∷_}
-use Prim.Native.Nat.{ℕ, _+_, _*_, _<_, _≤_}
+use Prim.Native.Nat.{ℕ, _+_, _*_, _<_}
 use native.Mathlib.Omega.{arith}
 use lib.IntN.{ℤ, pos}
-use lib.ListN.{length, length-replicate}
-use borrow.Author.Tests.{eq-eqb, lt-ltb}
+use lib.ListN.{length}
+use borrow.Author.Tests.{eq-eqb}
 use Rattle.tables.proofs.Built.{length-build}
 use Rattle.buffers.specs.Laying.{patch}
+use Rattle.buffers.specs.declared.work.Work.{Work}
 use Rattle.buffers.proofs.Patches.{length-patch}
 use Rattle.record.specs.Layout.{packetBytes, frameCode, magBytes, scienceBytes}
 use Rattle.record.specs.Rules.{broken}
 use Rattle.record.specs.Contents.{recordOf}
 use Rattle.mag.specs.Samples.{samplesSize, sample, samples}
-use Rattle.cells.specs.Laying.{cellsSize}
+use Rattle.cells.specs.Laying.{cellsSize, laidFrame}
 use Rattle.cells.proofs.Laws.{length-frame}
-use Rattle.clock.specs.Clock.{later, accepted}
-use Rattle.major.specs.Major.{frameSamples, slotOf}
+use Rattle.clock.specs.Clock.{isLater, dated}
+use Rattle.clock.proofs.Laws.{stands}
+use Rattle.major.specs.Major.{frameSamples}
+use Rattle.major.specs.declared.SlotWork.{SlotWork}
 use Rattle.state.specs.List.{listed, fresh}
-use Rattle.state.specs.Deciding.{Input, stateHolds, clockHolds, guardHolds, numberOf, acceptedAt, decidedOf, answerNumber}
+use Rattle.state.specs.Deciding.{Input, stateHolds, clockHolds, guardHolds, numberOf, decidedOf, answerNumber}
 use Rattle.state.specs.Ending.{endedOf}
 use Rattle.state.specs.Keeping.{Sound}
 use Rattle.state.specs.declared.State.{State}
-use Rattle.clock.specs.declared.Clock.{Clock}
-use Rattle.state.specs.declared.deciding.Decided.{Decided}
-use Rattle.state.proofs.Numbers.{number-is, accepted-is}
+use Rattle.state.proofs.Numbers.{number-is}
+use Rattle.state.proofs.Told.{accepted-clock, slot-small}
 use Rattle.state.proofs.Keeping.{step-sound, never-13, fresh-sound}
-use Rattle.reader.specs.Buffers.{copiedBy, Buffers, sizedBy, sized, cellsAfter, samplesAfter}
+use Rattle.reader.specs.Buffers.{Buffers, sizedBy, sized, copiedBy, clearedBy, cellsAfter, samplesAfter}
 use Rattle.reader.specs.Steps.{input}
-use Rattle.reader.proofs.Lengths.{Sizes, sizes}
+use Rattle.reader.proofs.Lengths.{Sizes, sizes, length-cleared}
 use Rattle.stream.specs.Running.{Call, step, called, run, traceOf, accumulations, majors}
-use Rattle.stream.specs.Sending.{next, Fate, kept, removed, extra, Sends, fed, ExtraRefused, KeptAccepted, Kept, keptOf}
+use Rattle.stream.specs.Sending.{sentCount, next, Fate, kept, removed, extra, Sends, fed, ExtraRefused, KeptAccepted, Kept, keptOf}
 use Rattle.stream.proofs.Runs.{answered, finished}
 use Rattle.stream.proofs.Calls.{accumulate, collect, cells-out, samples-out, refused-call, cells-call, samples-call}
 

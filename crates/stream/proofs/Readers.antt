@@ -21,6 +21,7 @@ use Rattle.cells.specs.Raw.{holdsCell}
 use Rattle.cells.specs.Laying.{cellsSize}
 use Rattle.listing.specs.Lines.{framesHeld, cellsHeld}
 use Rattle.accumulation.specs.Accumulation.{joins, started}
+use Rattle.clock.specs.Clock.{isLater, dated}
 use Rattle.state.specs.Deciding.{numberOf, answerNumber}
 use Rattle.state.specs.List.{fresh}
 use Rattle.accumulation.specs.declared.AccumulationReport.{AccumulationReport}
@@ -33,7 +34,7 @@ use Rattle.reader.specs.Buffers.{Buffers}
 use Rattle.reader.specs.Steps.{input}
 use Rattle.stream.specs.Running.{Reader, Call, traceOf, called, ClosedAccumulation, accumulationOut, accumulations}
 use Rattle.stream.specs.Lists.{Pairwise, sum, total}
-use Rattle.stream.specs.Sending.{Fate, kept, Sends, fed, ExtraRefused, Stream, Kept, keptOf, reals, realUnspoiled, KeptAccepted}
+use Rattle.stream.specs.Sending.{Fate, kept, Sends, fed, ExtraRefused, Stream, Kept, keptOf, those, realUnspoiled, KeptAccepted}
 use Rattle.stream.specs.Cutting.{at, typeOf, Joined, Parted}
 use Rattle.stream.specs.Filling.{Filled, packet}
 use Rattle.stream.specs.Demand.{cellsListed}
@@ -43,16 +44,16 @@ use Rattle.stream.specs.Readers.{RefusesAll, FixedAnswer, StoresNothing,
 use Rattle.stream.proofs.Counting.{total-none}
 use Rattle.stream.proofs.Runs.{answered, only-call}
 use Rattle.stream.proofs.Calls.{opening, joining}
-use Rattle.stream.proofs.Parts.{Ready, accepts, moves, start}
+use Rattle.stream.proofs.Parts.{Ready, stands-at, accepts, moves, start}
 use Rattle.stream.proofs.Pairs.{Split, Whole, of-two, of-one}
 use Rattle.stream.proofs.Made.{lent, lent-lengths, lent-sized, made, Right, five, six, real-five, real-six, sent-five, sent-six}
 
 -- type 5 at count 100 to the fresh reader, then type 6 at count 101
 first : Kept
-first = record { bytes = made 100 5; serial = 5; lost = 0 }
+first = record { bytes = made 100 5; count = 100; serial = 5; lost = 0 }
 
 second : Kept
-second = record { bytes = made 101 6; serial = 6; lost = 0 }
+second = record { bytes = made 101 6; count = 101; serial = 6; lost = 0 }
 
 is-five : Right 100 5
 is-five = five 100 (omega arith) (omega arith)
@@ -60,25 +61,31 @@ is-five = five 100 (omega arith) (omega arith)
 is-six : Right 101 6
 is-six = six 101 (omega arith) (omega arith)
 
+first-stands : (isLater (fresh .clock) (recordOf (made 100 5)) ≡ true) × (dated (fresh .clock) (recordOf (made 100 5)) ≡ 100)
+first-stands = stands-at fresh lent 100 (start lent 100 lent-sized) (made 100 5) (is-five .counted)
+
 first-passes : numberOf (input fresh lent (made 100 5)) ≡ 0
-first-passes = accepts fresh lent (made 100 5) fresh-sound lent-lengths (is-five .passes) (start lent 100 lent-sized .ahead (recordOf (made 100 5) .count) (omega (arith, is-five .counted)))
+first-passes = accepts fresh lent (made 100 5) fresh-sound lent-lengths (is-five .passes) (first-stands .0)
 
 abbrev now : Call
 now = called fresh lent (made 100 5)
 
 first-opens : now .result .state .accumulation ≡ started (typeOf first) (at first)
 unfolding joins first
-first-opens = opening fresh lent first first-passes (real-five 100) refl
+first-opens = opening fresh lent first first-passes (first-stands .1) (real-five 100) refl
 
 ready : Ready (now .result .state) (now .left) 101
-ready = moves fresh lent (made 100 5) 100 (start lent 100 lent-sized) (is-five .counted) first-passes
+ready = moves fresh lent (made 100 5) 100 (start lent 100 lent-sized) (first-stands .1) first-passes
+
+second-stands : (isLater (now .result .state .clock) (recordOf (made 101 6)) ≡ true) × (dated (now .result .state .clock) (recordOf (made 101 6)) ≡ 101)
+second-stands = stands-at (now .result .state) (now .left) 101 ready (made 101 6) (is-six .counted)
 
 second-passes : numberOf (input (now .result .state) (now .left) (made 101 6)) ≡ 0
-second-passes = accepts (now .result .state) (now .left) (made 101 6) (ready .sound) (ready .sized) (is-six .passes) (ready .ahead (recordOf (made 101 6) .count) (omega (arith, is-six .counted)))
+second-passes = accepts (now .result .state) (now .left) (made 101 6) (ready .sound) (ready .sized) (is-six .passes) (second-stands .0)
 
 second-joins : joins (now .result .state .accumulation) (typeOf second) (at second) ≡ true
 unfolding joins first second
-second-joins = rw (first-opens, is-five .typed, is-five .counted, is-six .typed, is-six .counted)
+second-joins = rw (first-opens, is-five .typed, is-six .typed)
 
 module _ (R : Reader) (keeps : Keeps R) where
   is-call : (s : State) (b : Buffers) (r : List ℕ) → R .steps s b r ≡ called s b r
@@ -104,7 +111,7 @@ module _ (R : Reader) (keeps : Keeps R) where
   pub says-joins : NeverSaysJoins R → ⊥
   unfolding second
   says-joins h =
-      let j = joining (now .result .state) (now .left) second second-passes (real-six 101) second-joins in
+      let j = joining (now .result .state) (now .left) second second-passes (second-stands .1) (real-six 101) second-joins in
       h (now .result .state) (now .left) (made 101 6) (record { fields = recordOf (made 101 6); gap = Joins }) (ap (λ (x : Call). x .result .answer) (is-call (now .result .state) (now .left) (made 101 6)) ∙ j) refl
 
 -- the stream of the first record alone, and that of both
@@ -114,11 +121,11 @@ one = kept (made 100 5) ∷ []
 pair : List Fate
 pair = kept (made 100 5) ∷ kept (made 101 6) ∷ []
 
-real-one : realUnspoiled 5 one ≡ first ∷ []
+real-one : realUnspoiled 100 5 one ≡ first ∷ []
 unfolding one keptOf those first
 real-one = rw (real-five 100)
 
-real-both : realUnspoiled 5 pair ≡ first ∷ second ∷ []
+real-both : realUnspoiled 100 5 pair ≡ first ∷ second ∷ []
 unfolding pair keptOf those first second
 real-both = rw (real-five 100, real-six 101)
 
@@ -133,10 +140,10 @@ out-lent r c d e = go (r .closed)
 
 all-lent : (R : Reader) → StoresNothing R → (rs : List (List ℕ)) (s : State) (b : Buffers) → Every (λ a. a .cells ≡ b .finishedCells) (accumulations (traceOf R s b rs))
 unfolding traceOf accumulations
-all-lent R h [] s b = out-lent (R .finishes s b .result .accumulation) (R .finishes s b .left .finishedCells) (b .finishedCells) (ap (λ (x : Buffers). x .finishedCells) (h .finishes s b))
+all-lent R h [] s b = out-lent (R .finishes s b .result .closed .accumulation) (R .finishes s b .left .finishedCells) (b .finishedCells) (ap (λ (x : Buffers). x .finishedCells) (h .finishes s b))
 all-lent R h (r ∷ rs) s b =
     every-joined (λ a. a .cells ≡ b .finishedCells) _ _
-    (out-lent (R .steps s b r .result .accumulation) (R .steps s b r .left .finishedCells) (b .finishedCells) (ap (λ (x : Buffers). x .finishedCells) (h .steps s b r)))
+    (out-lent (R .steps s b r .result .closed .accumulation) (R .steps s b r .left .finishedCells) (b .finishedCells) (ap (λ (x : Buffers). x .finishedCells) (h .steps s b r)))
     (subst⁻¹ (λ (x : Buffers). Every (λ a. a .cells ≡ b .finishedCells) (accumulations (traceOf R (R .steps s b r .result .state) x rs))) (h .steps s b r) (all-lent R h rs (R .steps s b r .result .state) b))
 
 -- no cell of 0 has a byte of the first record, whose bytes are 1

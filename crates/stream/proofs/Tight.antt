@@ -12,7 +12,7 @@ use Rattle.carriage.specs.Carriage.{types}
 use Rattle.state.specs.List.{fresh}
 use Rattle.stream.specs.Lists.{Some, Pairwise, Neighbours}
 use Rattle.stream.specs.Running.{Trace, run, traceOf, ClosedAccumulation, accumulations}
-use Rattle.stream.specs.Sending.{next, Fate, kept, removed, Sends, fed, ExtraRefused, Stream, Kept, keptOf, reals, realUnspoiled, unspoiled}
+use Rattle.stream.specs.Sending.{next, Fate, kept, removed, Sends, fed, ExtraRefused, Stream, Kept, keptOf, those, realUnspoiled, unspoiled}
 use Rattle.stream.specs.Cutting.{typeOf, tears, Joined, Parted, at, unaccepted}
 use Rattle.stream.specs.Filling.{Filled}
 use Rattle.stream.specs.Once.{Own}
@@ -34,11 +34,11 @@ neither P Q (x ∷ xs) e (inr s) = neither P Q xs (e .1) s
 -- "torn in two only where 36 or more counts weren't accepted"
 none-below : (n : ℕ) → n < tears → TornBy n → ⊥
 none-below n h t =
-    let rs = realUnspoiled (t .serial) (t .fates) in
+    let rs = realUnspoiled (t .count) (t .serial) (t .fates) in
     let tr = run fresh (t .lent) (fed (t .fates)) in
     let o = once-each (t .fates) (t .lent) (t .count) (t .serial) tr (t .stream) (run-allowed (fed (t .fates)) fresh (t .lent)) in
     ⊎-elim (λ (s : Some (λ a. Own rs (t .before) a × Own rs (t .after) a) (accumulations tr)). neither (Own rs (t .before)) (Own rs (t .after)) (accumulations tr) (t .apart) s)
-    (λ (s : tears ≤ unaccepted (unspoiled (t .serial) (t .fates)) (at (t .before)) (at (t .after))). omega (arith, t .lost))
+    (λ (s : tears ≤ unaccepted (unspoiled (t .count) (t .serial) (t .fates)) (at (t .before)) (at (t .after))). omega (arith, t .lost))
     (o .torn (t .before) (t .after) (t .neighbours) (t .one-round))
 
 -- n other records from count c on, none of them kept
@@ -56,10 +56,13 @@ lose-sent (suc n) c k xs l h s =
 next-filler : (k c : ℕ) → next k (made c 62) ≡ k
 next-filler k c = rw (other-filler c)
 
-lose-kept : (n c k l : ℕ) (xs : List Fate) → keptOf k l (lose c n xs) ≡ keptOf k (l + n) xs
+lose-kept : (n c k l : ℕ) (xs : List Fate) → keptOf c k l (lose c n xs) ≡ keptOf (c + n) k (l + n) xs
 unfolding lose keptOf
-lose-kept zero c k l xs = let e : l ≡ l + 0 = omega arith in ap (λ (m : ℕ). keptOf k m xs) e
-lose-kept (suc n) c k l xs = let e : l + 1 + n ≡ l + suc n = omega arith in ap (λ (j : ℕ). keptOf j (l + 1) (lose (c + 1) n xs)) (next-filler k c) ∙ lose-kept n (c + 1) k (l + 1) xs ∙ ap (λ (m : ℕ). keptOf k m xs) e
+lose-kept zero c k l xs = rw (add-zero c, add-zero l)
+lose-kept (suc n) c k l xs =
+    let d : c + 1 + n ≡ c + suc n = omega arith in
+    let e : l + 1 + n ≡ l + suc n = omega arith in
+    ap (λ (j : ℕ). keptOf (c + 1) j (l + 1) (lose (c + 1) n xs)) (next-filler k c) ∙ lose-kept n (c + 1) k (l + 1) xs ∙ rw (d, e)
 
 lose-refused : (n c : ℕ) (xs : List Fate) (t : Trace) → ExtraRefused xs t → ExtraRefused (lose c n xs) t
 unfolding lose ExtraRefused
@@ -80,12 +83,12 @@ unfolding stream Sends
 sent = (sent-five 100 5 (omega arith) (omega arith) refl, rw (real-five 100) (lose-sent 36 101 6 _ (omega arith) (omega arith) (sent-six 137 6 (omega arith) (omega arith) refl, tt)))
 
 before : Kept
-before = record { bytes = made 100 5; serial = 5; lost = 0 }
+before = record { bytes = made 100 5; count = 100; serial = 5; lost = 0 }
 
 after : Kept
-after = record { bytes = made 137 6; serial = 6; lost = 36 }
+after = record { bytes = made 137 6; count = 137; serial = 6; lost = 36 }
 
-are-kept : realUnspoiled 5 stream ≡ before ∷ after ∷ []
+are-kept : realUnspoiled 100 5 stream ≡ before ∷ after ∷ []
 unfolding stream keptOf those before after
 are-kept = rw (real-five 100, lose-kept 36 101 6 0 (kept (made 137 6) ∷ []), real-six 137)
 
@@ -121,16 +124,16 @@ apart rs (a ∷ b ∷ []) h = (
 )
 apart rs (a ∷ b ∷ c ∷ os) h = absurd (h .1 .1)
 
-stands-apart : Every (λ a. Own (realUnspoiled 5 stream) before a → Own (realUnspoiled 5 stream) after a → ⊥) (accumulations (run fresh lent (fed stream)))
+stands-apart : Every (λ a. Own (realUnspoiled 100 5 stream) before a → Own (realUnspoiled 100 5 stream) after a → ⊥) (accumulations (run fresh lent (fed stream)))
 stands-apart =
     let d = demand-3 stream lent 100 5 (run fresh lent (fed stream)) fed-stream (run-allowed (fed stream) fresh lent) in
-    ⊎-elim (λ (s : Split Joined Parted before after (d .parts)). apart (realUnspoiled 5 stream) _ (subst (λ (gs : List (List Kept)). Pairwise Filled gs (accumulations (run fresh lent (fed stream)))) (s .is) (d .parts-out)))
+    ⊎-elim (λ (s : Split Joined Parted before after (d .parts)). apart (realUnspoiled 100 5 stream) _ (subst (λ (gs : List (List Kept)). Pairwise Filled gs (accumulations (run fresh lent (fed stream)))) (s .is) (d .parts-out)))
     (λ (s : Whole Joined Parted before after (d .parts)). absurd (far (s .related)))
     (of-two Joined Parted before after (d .parts) (d .parts-whole ∙ are-kept) (d .parts-cut))
 
-lost-36 : unaccepted (unspoiled 5 stream) (at before) (at after) ≡ 36
+lost-36 : unaccepted (unspoiled 100 5 stream) (at before) (at after) ≡ 36
 unfolding before after Neighbours
-lost-36 = real-lost (unspoiled 5 stream) 100 5 0 (chain stream 100 5 0 sent) before after (subst⁻¹ (Neighbours before after) are-kept (inl (refl, refl)))
+lost-36 = real-lost (unspoiled 100 5 stream) 100 5 0 (chain stream 100 5 0 sent) before after (subst⁻¹ (Neighbours before after) are-kept (inl (refl, refl)))
 
 pub tight : Tight
 unfolding Neighbours

@@ -9,7 +9,7 @@ use Rattle.encoding.proofs.reports.put_closed.Statement.{statement}
 use Rattle.encoding.proofs.reports.put_closed.Tie as tie
 
 returns : tie.Need-returns
-returns c = not-written closedSize (closedBytes (c .before .before .args .major) (c .before .before .args .accumulation)) (c .before .before .args .room .now) (c .if1 .taken)
+returns c = not-written closedSize (closedBytes (c .before .before .args .closed)) (c .before .before .args .room .now) (c .if1 .taken)
 
 flag-of-requires : tie.Need-flag-of-requires
 flag-of-requires c κs = search needs
@@ -24,7 +24,7 @@ part-put-major-start : tie.Need-part-put-major-start
 part-put-major-start c = search needs
 
 part-put-major-end : tie.Need-part-put-major-end
-part-put-major-end c = omega (arith, length-set (c .before .before .before .args .room .now) 0 (c .flag-of .result))
+part-put-major-end c = omega (arith, length-set (c .before .before .before .before .before .args .room .now) 0 (c .flag-of .result))
 
 put-major-requires : tie.Need-put-major-requires
 put-major-requires c κs = search needs
@@ -39,7 +39,7 @@ flag-of-requires-2 : tie.Need-flag-of-requires-2
 flag-of-requires-2 c κs = search needs
 
 slice-write-room-2 : tie.Need-slice-write-room-2
-slice-write-room-2 c = omega (arith, c .before .before .before .before .room .given .1, length-set (c .before .before .before .before .before .before .before .before .before .before .args .room .now) 0 (c .before .before .before .before .before .before .before .flag-of .result), c .before .before .before .before .before .before .before .before .if1 .left)
+slice-write-room-2 c = omega (arith, c .before .before .before .before .room .given .1, length-set (c .before .before .before .before .before .before .before .before .before .before .before .before .args .room .now) 0 (c .before .before .before .before .before .before .before .flag-of .result), c .before .before .before .before .before .before .before .before .before .before .if1 .left)
 
 slice-aggregate-lay : tie.Need-slice-aggregate-lay
 slice-aggregate-lay c = search needs
@@ -54,10 +54,10 @@ lay-requires-2 : tie.Need-lay-requires-2
 lay-requires-2 c κs = search needs
 
 same-length : tie.Need-same-length
-same-length c = closed-kept (c .before .before .before .before .before .before .before .before .before .before .before .before .before .before .before .before .before .before .before .before .args .room .now) (c .before .before .before .before .before .before .before .before .before .before .before .before .before .before .before .put-major .last .1 .0) (c .before .before .before .before .before .before .before .before .before .before .before .before .bytes8 .result) (c .before .before .before .before .before .before .before .before .before .before .before .bytes82 .result) (c .before .before .before .before .before .before .before .lay .last .1 .0) (c .before .before .lay2 .last .1 .0) (c .before .before .before .before .before .before .before .before .before .before .before .before .before .before .before .before .before .flag-of .result) (c .before .before .before .before .before .before .before .before .before .before .flag-of2 .result) (c .before .before .before .before .before .before .before .before .before .before .before .before .before .before .room .given .1) (c .before .before .before .before .before .before .before .lay .ensures) (c .before .before .lay2 .ensures)
+same-length c = closed-kept (c .before .before .before .before .before .before .before .before .before .before .before .before .before .before .before .before .before .before .before .before .before .before .args .room .now) (c .before .before .before .before .before .before .before .before .before .before .before .before .before .before .before .put-major .last .1 .0) (c .before .before .before .before .before .before .before .before .before .before .before .before .bytes8 .result) (c .before .before .before .before .before .before .before .before .before .before .before .bytes82 .result) (c .before .before .before .before .before .before .before .lay .last .1 .0) (c .before .before .lay2 .last .1 .0) (c .before .before .before .before .before .before .before .before .before .before .before .before .before .before .before .before .before .flag-of .result) (c .before .before .before .before .before .before .before .before .before .before .flag-of2 .result) (c .before .before .before .before .before .before .before .before .before .before .before .before .before .before .room .given .1) (c .before .before .before .before .before .before .before .lay .ensures) (c .before .before .lay2 .ensures)
 
 returns-2 : tie.Need-returns-2
-returns-2 c = closed-put (c .before .before .before .before .before .before .before .before .before .before .before .before .before .before .before .before .before .before .before .before .args .major) (c .before .before .before .before .before .before .before .before .before .before .before .before .before .before .before .before .before .before .before .before .args .accumulation) (c .before .before .before .before .before .before .before .before .before .before .before .before .before .before .before .before .before .before .before .before .args .room .now) (c .before .before .before .before .before .before .before .before .before .before .before .before .before .before .before .put-major .last .1 .0) (c .before .before .before .before .before .before .before .before .before .before .before .before .bytes8 .result) (c .before .before .before .before .before .before .before .before .before .before .before .bytes82 .result) (c .before .before .before .before .before .before .before .lay .last .1 .0) (c .before .before .lay2 .last .1 .0) (c .before .before .before .before .before .before .before .before .before .before .before .before .before .before .before .before .before .flag-of .result) (c .before .before .before .before .before .before .before .before .before .before .flag-of2 .result) (c .before .before .before .before .before .before .before .before .before .before .before .before .before .before .before .before .before .before .if1 .left) (c .before .before .before .before .before .before .before .before .before .before .before .before .before .before .before .before .before .flag-of .ensures) (c .before .before .before .before .before .before .before .before .before .before .before .before .before .before .before .put-major .ensures) (c .before .before .before .before .before .before .before .before .before .before .before .before .before .before .room .given .0) (c .before .before .before .before .before .before .before .before .before .before .before .before .bytes8 .ensures) (c .before .before .before .before .before .before .before .before .before .before .before .bytes82 .ensures) (c .before .before .before .before .before .before .before .before .before .before .flag-of2 .ensures) (c .before .before .before .before .before .before .before .lay .ensures) (c .before .before .lay2 .ensures)
+returns-2 c = closed-put (c .before .before .before .before .before .before .before .before .before .before .before .before .before .before .before .before .before .before .before .before .before .before .args .closed) (c .before .before .before .before .before .before .before .before .before .before .before .before .before .before .before .before .before .before .before .before .before .before .args .room .now) (c .before .before .before .before .before .before .before .before .before .before .before .before .before .before .before .put-major .last .1 .0) (c .before .before .before .before .before .before .before .before .before .before .before .before .bytes8 .result) (c .before .before .before .before .before .before .before .before .before .before .before .bytes82 .result) (c .before .before .before .before .before .before .before .lay .last .1 .0) (c .before .before .lay2 .last .1 .0) (c .before .before .before .before .before .before .before .before .before .before .before .before .before .before .before .before .before .flag-of .result) (c .before .before .before .before .before .before .before .before .before .before .flag-of2 .result) (c .before .before .before .before .before .before .before .before .before .before .before .before .before .before .before .before .before .before .before .before .if1 .left) (c .before .before .before .before .before .before .before .before .before .before .before .before .before .before .before .before .before .flag-of .ensures) (c .before .before .before .before .before .before .before .before .before .before .before .before .before .before .before .put-major .ensures) (c .before .before .before .before .before .before .before .before .before .before .before .before .before .before .room .given .0) (c .before .before .before .before .before .before .before .before .before .before .before .before .bytes8 .ensures) (c .before .before .before .before .before .before .before .before .before .before .before .bytes82 .ensures) (c .before .before .before .before .before .before .before .before .before .before .flag-of2 .ensures) (c .before .before .before .before .before .before .before .lay .ensures) (c .before .before .lay2 .ensures)
 
 pub put-closed-spec : {M : Type 1} → statement M
 put-closed-spec =

@@ -51,7 +51,7 @@ same-length : tie.Need-same-length
 same-length c = search needs
 
 returns-3 : tie.Need-returns-3
-returns-3 c = report-put (c .before .before .before .before .before .before .before .before .before .before .before .before .before .args .stepped) (c .before .before .before .before .before .before .before .before .before .answer .given .0 .0) (c .before .before .before .before .before .before .before .before .before .before .before .before .before .args .room .now) (c .before .before .before .before .before .before .put-taken .last .1 .0) (c .before .before .put-closed .last .1 .1 .0) _ _ (c .before .before .before .before .before .before .before .before .before .before .before .if1 .left) (c .before .before .before .before .before .before .before .before .before .answer .given .1) (c .before .before .before .before .before .before .put-taken .ensures) refl (c .before .before .put-closed .ensures) (c .before .room2 .given .0) refl
+returns-3 c = report-put (c .before .before .before .before .before .before .before .before .before .before .before .before .before .args .stepped) (c .before .before .before .before .before .before .before .before .before .answer .given .0 .0) (c .before .before .before .before .before .before .before .before .before .before .before .before .before .args .room .now) (c .before .before .before .before .before .before .put-taken .last .1 .0) (c .before .before .put-closed .last .1 .0) _ _ (c .before .before .before .before .before .before .before .before .before .before .before .if1 .left) (c .before .before .before .before .before .before .before .before .before .answer .given .1) (c .before .before .before .before .before .before .put-taken .ensures) refl (c .before .before .put-closed .ensures) (c .before .room2 .given .0) refl
 
 pub put-report-spec : {M : Type 1} → statement M
 put-report-spec =
