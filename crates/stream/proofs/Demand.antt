@@ -12,7 +12,7 @@ use Rattle.state.proofs.Keeping.{fresh-sound}
 use Rattle.reader.specs.Buffers.{Buffers}
 use Rattle.stream.specs.Lists.{Pairwise, flat}
 use Rattle.stream.specs.Running.{Trace, run, Allowed}
-use Rattle.stream.specs.Sending.{Fate, fed, Stream, Kept, mags, unspoiled}
+use Rattle.stream.specs.Sending.{Fate, fed, Stream, Kept, magged, unspoiled}
 use Rattle.stream.specs.Cutting.{Joined, Parted, Beside, Behind}
 use Rattle.stream.specs.Filling.{Filled, MajorFilled}
 use Rattle.stream.specs.Demand.{Demand3}
@@ -50,7 +50,7 @@ module _ (xs : List Fate) (b : Buffers) (c k : ℕ) where
         major-cut = m .cut;
         major-out = major-out;
         cells-sum = cells-total (r .groups) _ parts-out ∙ ap (λ (g : List Kept). scienceSize * length g) (r .whole);
-        samples-sum = samples-total (m .groups) _ major-out ∙ ap (λ (g : List Kept). samplesSize * length (mags g)) (m .whole);
+        samples-sum = samples-total (m .groups) _ major-out ∙ ap (λ (g : List Kept). samplesSize * length (magged g)) (m .whole);
         slots-sum = slots-total (m .groups) _ major-out ∙ ap length (m .whole);
         states-sound = run-sound (fed xs) fresh b fresh-sound;
       }

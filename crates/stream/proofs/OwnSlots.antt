@@ -10,7 +10,7 @@ use Rattle.tables.specs.Marks.{bitSet}
 use Rattle.tables.specs.Every.{Every}
 use Rattle.stream.specs.Lists.{Some, Pairwise, ExactlyOne, flat}
 use Rattle.stream.specs.Running.{ClosedMajor}
-use Rattle.stream.specs.Sending.{Kept, hasMag, mags}
+use Rattle.stream.specs.Sending.{Kept, hasMag, magged}
 use Rattle.stream.specs.Cutting.{at, major}
 use Rattle.stream.specs.Filling.{slot, Sampled, Slotted, MajorFilled}
 use Rattle.stream.specs.Once.{OwnMajor, UnmixedMajor}
@@ -39,11 +39,11 @@ module _ (rs : List Kept) (c : ℕ) (counts : Rising at c rs) where
         (λ (n : Every (λ y. slot y ≡ i → ⊥) g). absurd (true≢false (sym e ∙ p .no-slot i l n .unheld))) (found (λ (x : Kept). slot x) i g);
     unheld = λ i l e. p .no-slot i l (in-every (λ y. slot y ≡ i → ⊥) g (λ y j z. true≢false (sym (stands y j .held) ∙ ap (λ (n : ℕ). bitSet (m .frame .slots) n) z ∙ e)));
     marked = λ i l e.
-        ⊎-elim (λ (s : Some (λ y. slot y ≡ i) (mags g)). in-some (λ y. slot y ≡ i) (Some (λ f. (slot f ≡ i) × (major f ≡ m .frame .number) × Sampled f m) (mags rs)) (mags g) s (λ y j z.
+        ⊎-elim (λ (s : Some (λ y. slot y ≡ i) (magged g)). in-some (λ y. slot y ≡ i) (Some (λ f. (slot f ≡ i) × (major f ≡ m .frame .number) × Sampled f m) (magged rs)) (magged g) s (λ y j z.
         let r = those-in hasMag g y j in
-        some-in (λ f. (slot f ≡ i) × (major f ≡ m .frame .number) × Sampled f m) (mags rs) y (in-those hasMag rs y (w y (r .0)) (r .1)) (z, sym (stands y (r .0) .number), stands y (r .0) .mag (r .1))))
-        (λ (n : Every (λ y. slot y ≡ i → ⊥) (mags g)). absurd (true≢false (sym e ∙ p .no-mag i l n .unmarked))) (found (λ (x : Kept). slot x) i (mags g));
-    unmarked = λ i l e. p .no-mag i l (in-every (λ y. slot y ≡ i → ⊥) (mags g) (λ y j z.
+        some-in (λ f. (slot f ≡ i) × (major f ≡ m .frame .number) × Sampled f m) (magged rs) y (in-those hasMag rs y (w y (r .0)) (r .1)) (z, sym (stands y (r .0) .number), stands y (r .0) .mag (r .1))))
+        (λ (n : Every (λ y. slot y ≡ i → ⊥) (magged g)). absurd (true≢false (sym e ∙ p .no-mag i l n .unmarked))) (found (λ (x : Kept). slot x) i (magged g));
+    unmarked = λ i l e. p .no-mag i l (in-every (λ y. slot y ≡ i → ⊥) (magged g) (λ y j z.
         let r = those-in hasMag g y j in
         true≢false (sym (stands y (r .0) .mag (r .1) .marked) ∙ ap (λ (n : ℕ). bitSet (m .frame .«mag_slots») n) z ∙ e)));
   }

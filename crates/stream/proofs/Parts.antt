@@ -108,8 +108,8 @@ accepts s b r h z e l = go (guardHolds i) refl
     i = input s b r
 
     go : (t : Bool) → guardHolds i ≡ t → numberOf i ≡ 0
-    go true t = number-is i ∙ rw (is-sized b z, h .passes, eq-eqb (broken r) 0 e, l, t)
-    go false t = absurd (never-13 i (number-is i ∙ rw (is-sized b z, h .passes, eq-eqb (broken r) 0 e, l, t)))
+    go true t = number-is i ∙ rw (t, is-sized b z, h .passes, eq-eqb (broken r) 0 e, l)
+    go false t = absurd (never-13 i (number-is i ∙ rw (t, is-sized b z, h .passes, eq-eqb (broken r) 0 e, l)))
 
 -- and is ready for the next count
 pub moves : (s : State) (b : Buffers) (r : List ℕ) (c : ℕ) → Ready s b c → dated (s .clock) (recordOf r) ≡ c → numberOf (input s b r) ≡ 0

@@ -28,7 +28,7 @@ use Rattle.major.specs.Shape.{Shaped}
 use Rattle.major.specs.declared.Major.{Major}
 use Rattle.stream.specs.Lists.{Linked}
 use Rattle.stream.specs.Running.{ClosedMajor}
-use Rattle.stream.specs.Sending.{Kept, those, hasMag, mags}
+use Rattle.stream.specs.Sending.{Kept, those, hasMag, magged}
 use Rattle.stream.specs.Cutting.{at, major, Beside}
 use Rattle.stream.specs.Filling.{packet, slot, Sampled, Slotted, MajorFilled}
 use Rattle.stream.proofs.Calls.{samplesWith, noSamples, majorWith}
@@ -43,12 +43,12 @@ unfolding majorFrom majorWith into marksFrom
 slots-are [] m = refl
 slots-are (f ∷ fs) m = slots-are fs (majorWith f m)
 
-mags-are : (fs : List Kept) (m : Major) → majorFrom m fs .«mag_slots» ≡ marksFrom slot (m .«mag_slots») (mags fs)
+mags-are : (fs : List Kept) (m : Major) → majorFrom m fs .«mag_slots» ≡ marksFrom slot (m .«mag_slots») (magged fs)
 unfolding majorFrom majorWith into marksFrom those
 mags-are [] m = refl
 mags-are (f ∷ fs) m = mags-are fs (majorWith f m) ∙ go (hasMag f)
   where
-    go : (t : Bool) → marksFrom slot (cond t (marked (m .«mag_slots») (slot f)) (m .«mag_slots»)) (mags fs) ≡ marksFrom slot (m .«mag_slots») (cond t (f ∷ mags fs) (mags fs))
+    go : (t : Bool) → marksFrom slot (cond t (marked (m .«mag_slots») (slot f)) (m .«mag_slots»)) (magged fs) ≡ marksFrom slot (m .«mag_slots») (cond t (f ∷ magged fs) (magged fs))
     go true = refl
     go false = refl
 
@@ -63,15 +63,15 @@ unfolding majorFrom majorWith into Every
 words-stay [] m i n = refl
 words-stay (f ∷ fs) m i n = words-stay fs (majorWith f m) i (n .1) ∙ getD-set-other (m .words) (slot f) i (recordOf (f .bytes) .subcom) 0 (λ e. n .0 (sym e))
 
-ranges-stay : (fs : List Kept) (m : Major) (i : ℕ) → Free slot i (mags fs) → getD (majorFrom m fs .ranges) i 0 ≡ getD (m .ranges) i 0
+ranges-stay : (fs : List Kept) (m : Major) (i : ℕ) → Free slot i (magged fs) → getD (majorFrom m fs .ranges) i 0 ≡ getD (m .ranges) i 0
 unfolding majorFrom majorWith into Every those
 ranges-stay [] m i n = refl
 ranges-stay (f ∷ fs) m i n = go (hasMag f) refl (λ k. ranges-stay fs (majorWith f m) i k)
   where
-    go : (t : Bool) → hasMag f ≡ t → (Free slot i (mags fs) → getD (majorFrom (majorWith f m) fs .ranges) i 0 ≡ getD (majorWith f m .ranges) i 0)
+    go : (t : Bool) → hasMag f ≡ t → (Free slot i (magged fs) → getD (majorFrom (majorWith f m) fs .ranges) i 0 ≡ getD (majorWith f m .ranges) i 0)
         → getD (majorFrom (majorWith f m) fs .ranges) i 0 ≡ getD (m .ranges) i 0
     go true e r =
-        let k : Free slot i (f ∷ mags fs) = rw e at n in
+        let k : Free slot i (f ∷ magged fs) = rw e at n in
         r (k .1) ∙ rw e (getD-set-other (m .ranges) (slot f) i (range (magBytes (packet f))) 0 (λ e. k .0 (sym e)))
     go false e r = r (rw e at n) ∙ rw e
 
@@ -109,14 +109,14 @@ module _ (f : Kept) (s : List ℤ) (e : length s ≡ frameSamples) where
           let d : slot f ≡ i → ⊥ = n t in
           patch-right s (samplesSize * slot f) own fits (samplesSize * i + k) (pos 0) (omega (arith, ltb-false i (slot f) q, size))
 
-samples-stay : (fs : List Kept) (s : List ℤ) (i k : ℕ) → length s ≡ frameSamples → Free slot i (mags fs) → k < samplesSize → getD (samplesFrom s fs) (samplesSize * i + k) (pos 0) ≡ getD s (samplesSize * i + k) (pos 0)
+samples-stay : (fs : List Kept) (s : List ℤ) (i k : ℕ) → length s ≡ frameSamples → Free slot i (magged fs) → k < samplesSize → getD (samplesFrom s fs) (samplesSize * i + k) (pos 0) ≡ getD s (samplesSize * i + k) (pos 0)
 unfolding samplesFrom Every those
 samples-stay [] s i k e n h = refl
 samples-stay (f ∷ fs) s i k e n h = go (hasMag f) refl (λ q. samples-stay fs (samplesWith f s) i k (laid-length f s e) q h)
   where
-    go : (t : Bool) → hasMag f ≡ t → (Free slot i (mags fs) → getD (samplesFrom (samplesWith f s) fs) (samplesSize * i + k) (pos 0) ≡ getD (samplesWith f s) (samplesSize * i + k) (pos 0))
+    go : (t : Bool) → hasMag f ≡ t → (Free slot i (magged fs) → getD (samplesFrom (samplesWith f s) fs) (samplesSize * i + k) (pos 0) ≡ getD (samplesWith f s) (samplesSize * i + k) (pos 0))
         → getD (samplesFrom (samplesWith f s) fs) (samplesSize * i + k) (pos 0) ≡ getD s (samplesSize * i + k) (pos 0)
-    go true t r = let q : Free slot i (f ∷ mags fs) = rw t at n in r (q .1) ∙ laid-other f s e i k (λ z. q .0) h
+    go true t r = let q : Free slot i (f ∷ magged fs) = rw t at n in r (q .1) ∙ laid-other f s e i k (λ z. q .0) h
     go false t r = r (rw t at n) ∙ laid-other f s e i k (λ z. absurd (false≢true (sym t ∙ z))) h
 
 -- what a major frame has before the records fs are put in, all of major number n, their slots from low on
@@ -166,9 +166,9 @@ module _ (f : Kept) (fs : List Kept) (n low : ℕ) (m : Major) (s : List ℤ) (b
   first-sampled : hasMag f ≡ true → Sampled f (over m s (f ∷ fs))
   unfolding majorFrom samplesFrom
   first-sampled real =
-      let r : Rising slot low (f ∷ mags fs) = subst (Rising slot low) (those-more hasMag f fs real) (rising-those hasMag slot (f ∷ fs) low (b .rising)) in
+      let r : Rising slot low (f ∷ magged fs) = subst (Rising slot low) (those-more hasMag f fs real) (rising-those hasMag slot (f ∷ fs) low (b .rising)) in
       record {
-        marked = rw (mags-are (f ∷ fs) m, those-more hasMag f fs real) (marks-first slot f (mags fs) low (m .«mag_slots») (b .mags) r);
+        marked = rw (mags-are (f ∷ fs) m, those-more hasMag f fs real) (marks-first slot f (magged fs) low (m .«mag_slots») (b .mags) r);
         ranged = ranges-stay fs (majorWith f m) (slot f) (every-those hasMag _ fs free) ∙ own-range real;
         samples = λ k h. samples-stay fs (samplesWith f s) (slot f) k (laid-length f s (b .samples)) (every-those hasMag _ fs free) h ∙ laid-own f s (b .samples) k real h;
       }
@@ -214,7 +214,7 @@ major-filled f fs l =
     } in
     record {
       held = rw (slots-are g noMajor) (marks-count slot g 0 0 (pow-pos 0) r ∙ zero-add (length g));
-      mags = rw (mags-are g noMajor) (marks-count slot (mags g) 0 0 (pow-pos 0) (rising-those hasMag slot g 0 r) ∙ zero-add (length (mags g)));
+      mags = rw (mags-are g noMajor) (marks-count slot (magged g) 0 0 (pow-pos 0) (rising-those hasMag slot g 0 r) ∙ zero-add (length (magged g)));
       shaped = all-shaped g (major f) 0 noMajor noSamples (omega arith) b;
       size = samples-length g noSamples (b .samples);
       own = all-slotted g (major f) 0 noMajor noSamples b;
@@ -223,7 +223,7 @@ major-filled f fs l =
         word = words-stay g noMajor i n ∙ getD-replicate {A = ℕ} 16 i 0 0 h;
       };
       no-mag = λ i h n. record {
-        unmarked = rw (mags-are g noMajor) (marks-stay slot (mags g) 0 0 i (pow-pos 0) (rising-those hasMag slot g 0 r) n ∙ bits-above 0 i (pow-pos i));
+        unmarked = rw (mags-are g noMajor) (marks-stay slot (magged g) 0 0 i (pow-pos 0) (rising-those hasMag slot g 0 r) n ∙ bits-above 0 i (pow-pos i));
         ranged = ranges-stay g noMajor i n ∙ getD-replicate {A = ℕ} 16 i 0 0 h;
         samples = λ k j. samples-stay g noSamples i k (b .samples) n j ∙ getD-replicate {A = ℤ} frameSamples (samplesSize * i + k) (pos 0) (pos 0) (omega arith);
       };

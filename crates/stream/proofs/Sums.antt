@@ -12,7 +12,7 @@ use Rattle.cells.specs.Raw.{holdsCell}
 use Rattle.listing.specs.Lines.{cellsHeld, slotsHeld, samplesHeld}
 use Rattle.stream.specs.Lists.{Pairwise, flat, sum, total}
 use Rattle.stream.specs.Running.{ClosedAccumulation, ClosedMajor}
-use Rattle.stream.specs.Sending.{Kept, those, hasMag, mags}
+use Rattle.stream.specs.Sending.{Kept, those, hasMag, magged}
 use Rattle.stream.specs.Filling.{Filled, MajorFilled}
 use Rattle.stream.proofs.Counting.{cells-held}
 use Rattle.stream.proofs.Those.{those-append}
@@ -27,12 +27,12 @@ module _ {O : Type 0} (P : List Kept → O → Type 0) (f : O → ℕ) (w : List
   sum-is (g ∷ gs) [] h = absurd h
   sum-is (g ∷ gs) (o ∷ os) h = omega (arith, is g o (h .0), sum-is gs os (h .1), more g (flat gs))
 
-mags-none : length (mags []) ≡ 0
+mags-none : length (magged []) ≡ 0
 unfolding those
 mags-none = refl
 
-mags-length : (g h : List Kept) → length (mags (g ++ h)) ≡ length (mags g) + length (mags h)
-mags-length g h = ap length (those-append hasMag g h) ∙ length-append (mags g) (mags h)
+mags-length : (g h : List Kept) → length (magged (g ++ h)) ≡ length (magged g) + length (magged h)
+mags-length g h = ap length (those-append hasMag g h) ∙ length-append (magged g) (magged h)
 
 -- the listing's three numbers
 module _ (gs : List (List Kept)) where
@@ -48,9 +48,9 @@ module _ (gs : List (List Kept)) where
       refl (λ g h. omega (arith, length-append g h)) (λ g a f. cells-held (a .report .held) (f .among) ∙ ap (λ (n : ℕ). scienceSize * n) (f .frames)) gs
 
   module _ (os : List ClosedMajor) (h : Pairwise MajorFilled gs os) where
-    pub samples-total : sum (λ m. samplesHeld (m .frame)) os ≡ samplesSize * length (mags (flat gs))
+    pub samples-total : sum (λ m. samplesHeld (m .frame)) os ≡ samplesSize * length (magged (flat gs))
     samples-total =
-        sum-is MajorFilled (λ m. samplesHeld (m .frame)) (λ g. samplesSize * length (mags g))
+        sum-is MajorFilled (λ m. samplesHeld (m .frame)) (λ g. samplesSize * length (magged g))
         (ap (λ (n : ℕ). samplesSize * n) mags-none) (λ g h. omega (arith, mags-length g h)) (λ g m f. ap (λ (n : ℕ). samplesSize * n) (f .mags)) gs os h
 
     pub slots-total : sum (λ m. slotsHeld (m .frame)) os ≡ length (flat gs)

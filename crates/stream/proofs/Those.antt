@@ -8,7 +8,7 @@ use native.Mathlib.Omega.{arith}
 use Rattle.tables.specs.Every.{Every}
 use Rattle.record.specs.Contents.{recordOf}
 use Rattle.record.proofs.Types.{mag-real}
-use Rattle.stream.specs.Sending.{Kept, those, isReal, hasMag, mags, reals}
+use Rattle.stream.specs.Sending.{Kept, those, isReal, hasMag, magged, reals}
 use Rattle.stream.proofs.Marking.{Rising, rising-down}
 
 module _ (p : Kept → Bool) where
@@ -51,9 +51,9 @@ module _ (p : Kept → Bool) where
       go false e q = rw e (rising-down key (those p xs) low (key x + 1) (omega (arith, r .0)) q)
 
 -- those with MAG are the real-time ones ("In the base an "other" frame gives its subcom word and nothing more")
-pub mags-real : (xs : List Kept) → mags xs ≡ reals xs
+pub mags-real : (xs : List Kept) → magged xs ≡ reals xs
 unfolding those
 mags-real [] = refl
 mags-real (x ∷ xs) =
-    ap (λ (t : Bool). cond t (x ∷ mags xs) (mags xs)) (mag-real (recordOf (x .bytes) .kind))
+    ap (λ (t : Bool). cond t (x ∷ magged xs) (magged xs)) (mag-real (recordOf (x .bytes) .kind))
     ∙ ap (λ (ys : List Kept). cond (isReal x) (x ∷ ys) ys) (mags-real xs)

@@ -1,5 +1,6 @@
 -- Demand 3's 36 is the best bound: a stream that is torn by 36 lost counts, and none by fewer.
 -- Assumes nothing.
+use native.Mathlib.Nat.{add-zero}
 use mathlib.Core.Path.{_≡_, refl, sym, ap, subst, subst⁻¹, _∙_}
 use mathlib.Core.Bool.{true, false, true≢false}
 use mathlib.Core.List.{List, [], _∷_}

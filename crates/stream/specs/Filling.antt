@@ -17,7 +17,7 @@ use Rattle.cells.specs.Laying.{cellsSize, topPair, pairAt}
 use Rattle.major.specs.Major.{slots, frameSamples, slotOf}
 use Rattle.major.specs.Shape.{Shaped}
 use Rattle.stream.specs.Running.{ClosedAccumulation, ClosedMajor}
-use Rattle.stream.specs.Sending.{Kept, hasMag, mags}
+use Rattle.stream.specs.Sending.{Kept, hasMag, magged}
 use Rattle.stream.specs.Cutting.{at, typeOf, major}
 
 -- the packet of a kept record
@@ -80,9 +80,9 @@ pub record NoMag (i : ℕ) (m : ClosedMajor) : Type 0 where
 -- the major frame that holds just these records
 pub record MajorFilled (g : List Kept) (m : ClosedMajor) : Type 0 where
   pub held : ones (m .frame .slots) ≡ length g
-  pub mags : ones (m .frame .«mag_slots») ≡ length (mags g)
+  pub mags : ones (m .frame .«mag_slots») ≡ length (magged g)
   pub shaped : Shaped (m .frame)
   pub size : length (m .samples) ≡ frameSamples
   pub own : Every (λ f. Slotted f m) g
   pub no-slot : (i : ℕ) → i < slots → Every (λ f. slot f ≡ i → ⊥) g → NoSlot i m
-  pub no-mag : (i : ℕ) → i < slots → Every (λ f. slot f ≡ i → ⊥) (mags g) → NoMag i m
+  pub no-mag : (i : ℕ) → i < slots → Every (λ f. slot f ≡ i → ⊥) (magged g) → NoMag i m

@@ -17,7 +17,7 @@ use Rattle.cells.specs.Raw.{holdsCell}
 use Rattle.major.specs.Major.{slots}
 use Rattle.stream.specs.Lists.{Some, ExactlyOne, Neighbours, sum, total}
 use Rattle.stream.specs.Running.{Trace, ClosedAccumulation, ClosedMajor, accumulations, majors}
-use Rattle.stream.specs.Sending.{Fate, Kept, mags, unspoiled, realUnspoiled}
+use Rattle.stream.specs.Sending.{Fate, Kept, magged, unspoiled, realUnspoiled}
 use Rattle.stream.specs.Cutting.{at, typeOf, round, unaccepted, tears, major}
 use Rattle.stream.specs.Filling.{packet, Stands, slot, Sampled, Slotted, NoSlot, NoMag}
 
@@ -62,7 +62,7 @@ OwnMajor f m = (m .frame .number ≡ major f) × (bitSet (m .frame .slots) (slot
 pub record UnmixedMajor (fs : List Kept) (m : ClosedMajor) : Type 0 where
   pub held : (i : ℕ) → i < slots → bitSet (m .frame .slots) i ≡ true → Some (λ f. (slot f ≡ i) × Slotted f m) fs
   pub unheld : (i : ℕ) → i < slots → bitSet (m .frame .slots) i ≡ false → NoSlot i m
-  pub marked : (i : ℕ) → i < slots → bitSet (m .frame .«mag_slots») i ≡ true → Some (λ f. (slot f ≡ i) × (major f ≡ m .frame .number) × Sampled f m) (mags fs)
+  pub marked : (i : ℕ) → i < slots → bitSet (m .frame .«mag_slots») i ≡ true → Some (λ f. (slot f ≡ i) × (major f ≡ m .frame .number) × Sampled f m) (magged fs)
   pub unmarked : (i : ℕ) → i < slots → bitSet (m .frame .«mag_slots») i ≡ false → NoMag i m
 
 -- proved as `once-each` in proofs/Once.antt

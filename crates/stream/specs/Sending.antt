@@ -119,8 +119,8 @@ hasMag x = carriesMag (recordOf (x .bytes) .kind)
 abbrev pub reals : List Kept → List Kept
 reals xs = those isReal xs
 
-abbrev pub mags : List Kept → List Kept
-mags xs = those hasMag xs
+abbrev pub magged : List Kept → List Kept
+magged xs = those hasMag xs
 
 -- the records, "the real-time frames left unspoiled", and the records with MAG
 abbrev pub unspoiled : ℕ → ℕ → List Fate → List Kept
@@ -130,4 +130,4 @@ abbrev pub realUnspoiled : ℕ → ℕ → List Fate → List Kept
 realUnspoiled c k xs = reals (unspoiled c k xs)
 
 abbrev pub magUnspoiled : ℕ → ℕ → List Fate → List Kept
-magUnspoiled c k xs = mags (unspoiled c k xs)
+magUnspoiled c k xs = magged (unspoiled c k xs)
