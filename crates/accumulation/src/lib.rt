@@ -4,13 +4,13 @@ mod joining;
 mod list;
 mod steps;
 
+use buffers::Work;
 pub use joining::guard_passes;
 pub use list::is_listed;
 pub use steps::no_accumulation;
 pub use steps::report;
 pub use steps::step;
 pub use steps::unreported;
-use buffers::Work;
 
 // The count of its first frame, the frames held (bit u for type u), the type and the count of its last frame, the other frames
 // accepted since. It is open when it holds a frame.

@@ -1,5 +1,5 @@
 -- The reader's clock: what "later" means, at which count a record stands, and the clock's part of the state list (01, "Numbers a
--- refused record gets"). Nobody else looks at a record's own count.
+-- refused record gets"). No decision looks at a record's own count but through this room.
 -- Assumes nothing.
 use Prim.Native.Nat.{ℕ}
 use mathlib.Core.Bool.{Bool, true, false, cond, not, _&&_, _||_}

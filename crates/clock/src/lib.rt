@@ -21,7 +21,10 @@ pub enum Arrival {
 pub fn unset() -> Clock
     ensures { λ c. ⌜ c ≡ unset ⌝ }
 {
-    Clock { any: false, last: 0 }
+    Clock {
+        any: false,
+        last: 0,
+    }
 }
 
 // Once a record at count d was accepted.

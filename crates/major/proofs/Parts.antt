@@ -13,7 +13,7 @@ use Rattle.tables.specs.Marks.{bitSet, marked}
 use Rattle.tables.proofs.Conds.{two}
 use Rattle.tables.proofs.Marks.{weight, bits-above, below}
 use Rattle.major.specs.Major.{slotOf, noMajor, continues, into, stays, turns, stepMajor}
-use Rattle.major.specs.Place.{Free, hasRoom, leaves, steppedAt, SteppedIs}
+use Rattle.major.specs.Place.{Free, slotFree, leaves, steppedAt, SteppedIs}
 use Rattle.major.specs.declared.Major.{Major}
 use Rattle.major.specs.declared.MajorStep.{MajorStep}
 
@@ -62,14 +62,14 @@ module _ (m : Major) (d : ℕ) where
   small : (n : ℕ) → eqb (n / 2 ^ slotOf d) 0 ≡ true → n < 2 ^ slotOf d
   small n e = omega (arith, div-lt-iff-lt-mul {x = n} {y = 1} (pow-pos (slotOf d)) .0 (omega (arith, eqb-true (n / 2 ^ slotOf d) 0 e)))
 
-  pub room-free : hasRoom m d ≡ true → Free m d
-  unfolding hasRoom
+  pub room-free : slotFree m d ≡ true → Free m d
+  unfolding slotFree
   room-free e =
       let t = two (eqb (m .slots / 2 ^ slotOf d) 0) _ e in
       (small (m .slots) (t .0), λ i p q. bits-above (m .«mag_slots») i (omega (arith, small (m .«mag_slots») (t .1), pow-mono p)))
 
-  pub free-room : m .«mag_slots» < 2 ^ 16 → Free m d → hasRoom m d ≡ true
-  unfolding hasRoom
+  pub free-room : m .«mag_slots» < 2 ^ 16 → Free m d → slotFree m d ≡ true
+  unfolding slotFree
   free-room h f =
       let a : m .slots / 2 ^ slotOf d ≡ 0 = div-eq-of-lt (f .0) in
       let b : m .«mag_slots» / 2 ^ slotOf d ≡ 0 = div-eq-of-lt (low-marks (m .«mag_slots») (slotOf d) (omega arith) h (f .1)) in
@@ -81,10 +81,10 @@ module _ (m : Major) (d : ℕ) (mag : Bool) (range word : ℕ) (x : MajorStep) w
   unfolding steppedAt stepMajor
   is-turned e q = record { is = q ∙ rw e; within = λ f. q ∙ rw e }
 
-  pub is-left : continues m d ≡ true → hasRoom m d ≡ false → m .«mag_slots» < 2 ^ 16 → x ≡ leaves m → SteppedIs m d mag range word x
+  pub is-left : continues m d ≡ true → slotFree m d ≡ false → m .«mag_slots» < 2 ^ 16 → x ≡ leaves m → SteppedIs m d mag range word x
   unfolding steppedAt
   is-left e r h q = record { is = q ∙ rw (e, r); within = λ f. absurd (true≢false (sym (free-room m d h (f e)) ∙ r)) }
 
-  pub is-stayed : continues m d ≡ true → hasRoom m d ≡ true → x ≡ stays m d mag range word → SteppedIs m d mag range word x
+  pub is-stayed : continues m d ≡ true → slotFree m d ≡ true → x ≡ stays m d mag range word → SteppedIs m d mag range word x
   unfolding steppedAt stepMajor
   is-stayed e r q = record { is = q ∙ rw (e, r); within = λ f. q ∙ rw e }

@@ -12,8 +12,8 @@ use Rattle.major.specs.declared.Major.{Major}
 use Rattle.major.specs.declared.MajorStep.{MajorStep}
 
 -- no slot from that of count d on is held, with MAG or without
-unfoldable pub hasRoom : Major → ℕ → Bool
-hasRoom m d = eqb (m .slots / 2 ^ slotOf d) 0 && eqb (m .«mag_slots» / 2 ^ slotOf d) 0
+unfoldable pub slotFree : Major → ℕ → Bool
+slotFree m d = eqb (m .slots / 2 ^ slotOf d) 0 && eqb (m .«mag_slots» / 2 ^ slotOf d) 0
 
 -- nothing is done
 abbrev pub leaves : Major → MajorStep
@@ -21,7 +21,7 @@ leaves m = record { next = m; report = majorUnreported; work = slotWork noWork 0
 
 unfoldable pub steppedAt : Major → ℕ → Bool → ℕ → ℕ → MajorStep
 steppedAt m d mag range word =
-    cond (continues m d) (cond (hasRoom m d) (stays m d mag range word) (leaves m)) (turns m d mag range word)
+    cond (continues m d) (cond (slotFree m d) (stays m d mag range word) (leaves m)) (turns m d mag range word)
 
 -- no slot from that of count d on is held, mark by mark
 abbrev pub Free : Major → ℕ → Type 0

@@ -3,13 +3,13 @@
 mod list;
 mod steps;
 
+use buffers::Work;
 pub use list::is_listed;
 pub use steps::no_major;
 pub use steps::no_slot_work;
 pub use steps::report;
 pub use steps::step;
 pub use steps::unreported;
-use buffers::Work;
 
 // Its number, the slots held and those held with MAG (bit s for slot s), their ranges and subcom words. It is open when it holds a
 // slot.

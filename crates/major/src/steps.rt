@@ -3,7 +3,7 @@
 ghost use mathlib.Core.Path.{_≡_};
 ghost use Prim.Native.Nat.{_^_, _<_};
 ghost use Rattle.major.specs.Major.{noMajor, continues, into, majorUnreported, majorReported, slotWork, stays, turns};
-ghost use Rattle.major.specs.Place.{Free, hasRoom, leaves, SteppedIs};
+ghost use Rattle.major.specs.Place.{Free, slotFree, leaves, SteppedIs};
 use crate::Major;
 use crate::MajorReport;
 use crate::MajorStep;
@@ -68,8 +68,8 @@ fn continues_at(m: Major, d: u64) -> bool
 }
 
 // Are no slots held from that of count d on? Of no state that passes the list, and no later record, is it otherwise.
-fn has_room(m: Major, d: u64) -> bool
-    ensures { λ b. ⌜ b ≡ hasRoom m d ⌝ }
+fn slot_free(m: Major, d: u64) -> bool
+    ensures { λ b. ⌜ b ≡ slotFree m d ⌝ }
     ensures { λ b. ⌜ m .«mag_slots» < 2 ^ 16 ⌝ }
 {
     if m.slots >> (d % 16) != 0 {
@@ -151,7 +151,7 @@ pub fn step(m: Major, d: u64, mag: bool, range: u8, word: u16) -> MajorStep
     if !continues_at(m, d) {
         return turn(m, d, mag, range, word);
     }
-    if !has_room(m, d) {
+    if !slot_free(m, d) {
         return leave(m);
     }
     stay(m, d, mag, range, word)

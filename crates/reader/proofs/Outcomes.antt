@@ -29,7 +29,7 @@ use Rattle.state.proofs.Told.{all-pass, passed-size, at-work, science-type, cel
 use Rattle.state.proofs.Closing.{end-clears}
 use Rattle.reader.specs.Buffers.{Buffers, buffers, sizedBy, sized, copiedBy, clearedBy, cellsAfter, samplesAfter, worked}
 use Rattle.reader.specs.Steps.{input, StepIs, FinishIs}
-use Rattle.reader.specs.Working.{FrameReady, SlotReady, CellsReady, SamplesReady, CellsWorked, SamplesWorked}
+use Rattle.reader.specs.Asked.{FrameReady, SlotReady, CellsReady, SamplesReady, CellsWorked, SamplesWorked}
 use Rattle.reader.proofs.Lengths.{Sizes, sizes, length-cleared}
 
 -- all four buffers, once the work is done on each pair

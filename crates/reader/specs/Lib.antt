@@ -1,3 +1,3 @@
 pub mod Buffers
 pub mod Steps
-pub mod Working
+pub mod Asked

@@ -98,8 +98,20 @@ abbrev pub frameType : List ℕ → ℕ
 frameType p = frameCode p % 64
 
 -- then the 82 MAG bytes and the 83 ER bytes (01, "The packet")
+abbrev pub magAt : ℕ
+magAt = 3
+
+abbrev pub magCount : ℕ
+magCount = 82
+
+abbrev pub scienceAt : ℕ
+scienceAt = 85
+
+abbrev pub scienceCount : ℕ
+scienceCount = 83
+
 abbrev pub magBytes : List ℕ → List ℕ
-magBytes p = take 82 (drop 3 p)
+magBytes p = take magCount (drop magAt p)
 
 abbrev pub scienceBytes : List ℕ → List ℕ
-scienceBytes p = take 83 (drop 85 p)
+scienceBytes p = take scienceCount (drop scienceAt p)

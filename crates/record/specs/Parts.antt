@@ -6,7 +6,7 @@ use mathlib.Core.List.{List, []}
 use mathlib.Core.Path.{_≡_}
 use lib.Dec.{eqb}
 use lib.ListN.{length, take, drop}
-use Rattle.record.specs.Layout.{size, packetAt, packetSize, packetBytes}
+use Rattle.record.specs.Layout.{size, packetAt, packetSize, packetBytes, magAt, magCount, scienceAt, scienceCount}
 use Rattle.record.specs.Rules.{broken}
 
 -- a part handed back: n bytes of b from place `at` on where the test holds, else none; and that they are the caller's own. A slice
@@ -30,7 +30,7 @@ PacketAtIs r = PartIs (eqb (length r) size) packetAt packetSize r
 
 -- "We read bytes ... 3-84 as MAG, 85-167 as ER": `magBytes` and `scienceBytes` (Layout) of a packet; of bytes of another size none
 abbrev pub MagIs : List ℕ → ℕ × ℕ → List ℕ → ℕ × ℕ → Type 0
-MagIs p = PartIs (eqb (length p) packetSize) 3 82 p
+MagIs p = PartIs (eqb (length p) packetSize) magAt magCount p
 
 abbrev pub ScienceIs : List ℕ → ℕ × ℕ → List ℕ → ℕ × ℕ → Type 0
-ScienceIs p = PartIs (eqb (length p) packetSize) 85 83 p
+ScienceIs p = PartIs (eqb (length p) packetSize) scienceAt scienceCount p

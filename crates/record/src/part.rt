@@ -23,12 +23,7 @@ fn part<'a>(b: &'a [u8], size: usize, at: usize, n: usize) -> &'a [u8]
 pub fn packet_in<'a>(r: &'a [u8]) -> &'a [u8]
     ensures { λ p. ⌜ PacketAtIs (now (r .entry)) (r .entry .ptr) (now p) (p .ptr) ⌝ }
 {
-    part(
-        r,
-        Record::SIZE,
-        Record::PACKET_AT,
-        Record::PACKET_SIZE,
-    )
+    part(r, Record::SIZE, Record::PACKET_AT, Record::PACKET_SIZE)
 }
 
 // The packet part: bytes 286 to 453, or an empty part where one of rules 2 to 11 fails.

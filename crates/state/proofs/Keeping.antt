@@ -26,7 +26,7 @@ use Rattle.major.specs.List.{slotHolds, noSlot}
 use Rattle.major.proofs.Facts.{slots-of, slot-clauses, well-facts, mag-among}
 use Rattle.major.proofs.Keeping as major
 use Rattle.state.specs.List.{fresh, listed}
-use Rattle.state.specs.Deciding.{Input, fieldsOf, countAt, rangeOf, stateHolds, clockHolds, guardHolds, readerRules, numberOf, acceptance, decidedOf}
+use Rattle.state.specs.Deciding.{Input, fieldsOf, countAt, magRange, stateHolds, clockHolds, guardHolds, readerRules, numberOf, acceptance, decidedOf}
 use Rattle.state.specs.Ending.{ending, unended, endedOf}
 use Rattle.state.specs.Keeping.{Sound, StepKeeps, EndKeeps, Never13}
 use Rattle.state.specs.declared.State.{State}
@@ -61,7 +61,7 @@ module _ (i : Input) (sound : Sound (i .state)) (later : isLater (i .state .cloc
   small : countAt i < 16777216
   small = dated-below (i .state .clock) (i .bytes) (known .clock) later
 
-  accepted-sound : Sound (acceptance (i .state) (fieldsOf i) (countAt i) (rangeOf i) .stepped .state)
+  accepted-sound : Sound (acceptance (i .state) (fieldsOf i) (countAt i) (magRange i) .stepped .state)
   unfolding acceptance
   accepted-sound =
       let c = i .state .clock in
@@ -70,8 +70,8 @@ module _ (i : Input) (sound : Sound (i .state)) (later : isLater (i .state .cloc
         passes = is-listed (accepted (countAt i)) _ _
             (accepted-listed (countAt i) small)
             (accumulation.step-listed c (i .state .accumulation) _ _ (countAt i) (known .accumulation) (science-type (i .bytes)) above small)
-            (major.step-listed c m (countAt i) _ (rangeOf i) (fieldsOf i .subcom) (known .major) (sound .shaped) above (omega arith));
-        shaped = major.step-shaped c m (countAt i) _ (rangeOf i) (fieldsOf i .subcom) (known .major) (sound .shaped) above (omega arith);
+            (major.step-listed c m (countAt i) _ (magRange i) (fieldsOf i .subcom) (known .major) (sound .shaped) above (omega arith));
+        shaped = major.step-shaped c m (countAt i) _ (magRange i) (fieldsOf i .subcom) (known .major) (sound .shaped) above (omega arith);
       }
 
 -- every state that step hands back from one that passes, passes

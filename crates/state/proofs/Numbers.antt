@@ -24,7 +24,7 @@ use Rattle.mag.specs.declared.unpacking.Unpacked.the-variants as unpacked
 use Rattle.clock.specs.Clock.{isLater, dated}
 use Rattle.accumulation.specs.Accumulation.{unguarded}
 use Rattle.state.specs.List.{listed}
-use Rattle.state.specs.Deciding.{Input, fieldsOf, countAt, rangeOf, stateHolds, clockHolds, guardHolds, readerRules, numberOf}
+use Rattle.state.specs.Deciding.{Input, fieldsOf, countAt, magRange, stateHolds, clockHolds, guardHolds, readerRules, numberOf}
 use Rattle.state.specs.Deciding.{refusal, acceptance, decidedOf, answerNumber, DecidedIs, decidedAt, decidedBy}
 use Rattle.state.specs.declared.State.{State}
 use Rattle.state.specs.declared.deciding.Decided.{Decided}
@@ -45,7 +45,7 @@ unfolding numberOf readerRules rules ofPart
 exactly i = first-broken readerRules i refl
 
 -- the decision on a record that no rule refuses, and on one that is refused
-pub accepted-is : (i : Input) → numberOf i ≡ 0 → decidedOf i ≡ acceptance (i .state) (fieldsOf i) (countAt i) (rangeOf i)
+pub accepted-is : (i : Input) → numberOf i ≡ 0 → decidedOf i ≡ acceptance (i .state) (fieldsOf i) (countAt i) (magRange i)
 unfolding decidedOf
 accepted-is i e = rw (eq-eqb (numberOf i) 0 e)
 
@@ -89,10 +89,10 @@ module _ (s : State) (sized : Bool) (r : List ℕ) (x : Decided) where
       number-late = number-is handed ∙ rw (ok, eq-eqb (broken r) 0 p)
 
       abbrev taken : Decided
-      taken = acceptance s (recordOf r) (countAt handed) (rangeOf handed)
+      taken = acceptance s (recordOf r) (countAt handed) (magRange handed)
 
       -- rules 12 and 13
-      pub record-decided : x ≡ decidedBy s (recordOf r) (rangeOf handed) → DecidedIs s sized r x
+      pub record-decided : x ≡ decidedBy s (recordOf r) (magRange handed) → DecidedIs s sized r x
       unfolding decidedBy decidedAt clockHolds guardHolds
       record-decided q = go (clockHolds handed) (guardHolds handed) refl refl q
         where
@@ -102,7 +102,7 @@ module _ (s : State) (sized : Bool) (r : List ℕ) (x : Decided) where
           go true false u v w = is-refused 13 (number-late ∙ rw (u, v)) (omega arith) w
           go true true u v w =
               let e : numberOf handed ≡ 0 = number-late ∙ rw (u, v) in
-              let n = acceptance-number s (recordOf r) (countAt handed) (rangeOf handed) in
+              let n = acceptance-number s (recordOf r) (countAt handed) (magRange handed) in
               record {
                 is = w ∙ sym (accepted-is handed e);
                 number = ap (λ (y : Decided). answerNumber (y .stepped .answer)) w ∙ n ∙ sym e;

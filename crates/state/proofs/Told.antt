@@ -19,7 +19,7 @@ use Rattle.accumulation.proofs.Closing as accumulation
 use Rattle.major.specs.Major.{slotOf, continues}
 use Rattle.major.proofs.Closing as major
 use Rattle.state.specs.List.{listed}
-use Rattle.state.specs.Deciding.{Input, fieldsOf, countAt, rangeOf, stateHolds, clockHolds, guardHolds, numberOf, refusal, acceptance, decidedOf}
+use Rattle.state.specs.Deciding.{Input, fieldsOf, countAt, magRange, stateHolds, clockHolds, guardHolds, numberOf, refusal, acceptance, decidedOf}
 use Rattle.state.specs.declared.deciding.Decided.{Decided}
 use Rattle.state.proofs.Numbers.{number-is, accepted-is, refused-is}
 

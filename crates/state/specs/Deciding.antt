@@ -38,8 +38,8 @@ fieldsOf i = recordOf (i .bytes)
 abbrev pub countAt : Input → ℕ
 countAt i = dated (i .state .clock) (fieldsOf i)
 
-abbrev pub rangeOf : Input → ℕ
-rangeOf i = range (magBytes (packetBytes (i .bytes)))
+abbrev pub magRange : Input → ℕ
+magRange i = range (magBytes (packetBytes (i .bytes)))
 
 -- 1: "a lent buffer isn't of its size, or the state breaks the list below"
 unfoldable pub stateHolds : Input → Bool
@@ -84,7 +84,7 @@ acceptance s f d range = record {
 
 -- the decision
 unfoldable pub decidedOf : Input → Decided
-decidedOf i = cond (eqb (numberOf i) 0) (acceptance (i .state) (fieldsOf i) (countAt i) (rangeOf i)) (refusal (i .state) (numberOf i))
+decidedOf i = cond (eqb (numberOf i) 0) (acceptance (i .state) (fieldsOf i) (countAt i) (magRange i)) (refusal (i .state) (numberOf i))
 
 -- 01's number of each case
 unfoldable pub answerNumber : Answer → ℕ

@@ -7,6 +7,8 @@ mod closed;
 mod deciding;
 mod ending;
 
+use accumulation::Accumulation;
+use clock::Clock;
 pub use closed::Closed;
 pub use closed::Works;
 pub use closed::nothing_closed;
@@ -19,8 +21,6 @@ pub use ending::Ended;
 pub use ending::Ending;
 pub use ending::Finished;
 pub use ending::end;
-use accumulation::Accumulation;
-use clock::Clock;
 use major::Major;
 
 // Clock, open accumulation, open major frame. Fresh is all 0.

@@ -90,7 +90,7 @@ KeptAccepted (extra x ∷ xs) (step c t) = KeptAccepted xs t
 KeptAccepted (extra x ∷ xs) (finish e) = ⊥
 
 -- A kept record and its place: the count at which it was sent, its real-time number (of an other record, that of the next
--- real-time one), and how many sent before it were not kept.
+-- real-time one), and how many sent before it were not kept. The count is the record's own (`own-counts` in proofs/Chains.antt).
 pub record Kept : Type 0 where
   pub bytes : List ℕ
   pub count : ℕ

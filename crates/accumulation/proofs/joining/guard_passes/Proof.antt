@@ -30,10 +30,11 @@ returns-3 : tie.Need-returns-3
 unfolding guardPasses unguarded
 returns-3 c =
     let k = c .before .before .before .before in
-    rw
-    (held (k .in-place .ensures) (c .before .before .before .if1 .left),
-     not-false (k .before .args .science) (c .before .before .if2 .left),
-     fails (c .before .joins-at .ensures) (c .if3 .taken))
+    rw (
+      held (k .in-place .ensures) (c .before .before .before .if1 .left),
+      not-false (k .before .args .science) (c .before .before .if2 .left),
+      fails (c .before .joins-at .ensures) (c .if3 .taken),
+    )
 
 holds-type-requires : tie.Need-holds-type-requires
 holds-type-requires c κs = place-type _ _ _ (held (c .before .before .before .before .in-place .ensures) (c .before .before .before .if1 .left))
@@ -42,11 +43,12 @@ returns-4 : tie.Need-returns-4
 unfolding guardPasses unguarded
 returns-4 c =
     let k = c .before .before .before .before .before in
-    rw
-    (held (k .in-place .ensures) (c .before .before .before .before .if1 .left),
-     not-false (k .before .args .science) (c .before .before .before .if2 .left),
-     held (c .before .before .joins-at .ensures) (c .before .if3 .left),
-     c .holds-type .ensures)
+    rw (
+      held (k .in-place .ensures) (c .before .before .before .before .if1 .left),
+      not-false (k .before .args .science) (c .before .before .before .if2 .left),
+      held (c .before .before .joins-at .ensures) (c .before .if3 .left),
+      c .holds-type .ensures,
+    )
 
 pub guard-passes-spec : {M : Type 1} → statement M
 guard-passes-spec =

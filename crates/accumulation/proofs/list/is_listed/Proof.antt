@@ -29,9 +29,10 @@ returns-2 : tie.Need-returns-2
 unfolding accumulationListed
 returns-2 c =
     let p1 = c .before .before in
-    rw
-    (held (p1 .before .counts-below .ensures) (p1 .if1 .left),
-     fails (c .before .frames-among .ensures) (c .if2 .taken))
+    rw (
+      held (p1 .before .counts-below .ensures) (p1 .if1 .left),
+      fails (c .before .frames-among .ensures) (c .if2 .taken),
+    )
 
 frames-fit-requires : tie.Need-frames-fit-requires
 frames-fit-requires c κs = first-below _ (held (c .before .before .before .counts-below .ensures) (c .before .before .if1 .left))
@@ -41,10 +42,11 @@ unfolding accumulationListed
 returns-3 c =
     let p2 = c .before .before in
     let p1 = p2 .before .before in
-    rw
-    (held (p1 .before .counts-below .ensures) (p1 .if1 .left),
-     held (p2 .before .frames-among .ensures) (p2 .if2 .left),
-     fails (c .before .frames-fit .ensures) (c .if3 .taken))
+    rw (
+      held (p1 .before .counts-below .ensures) (p1 .if1 .left),
+      held (p2 .before .frames-among .ensures) (p2 .if2 .left),
+      fails (c .before .frames-fit .ensures) (c .if3 .taken),
+    )
 
 others-fit-requires : tie.Need-others-fit-requires
 others-fit-requires c κs = search needs
@@ -55,11 +57,12 @@ returns-4 c =
     let p3 = c .before .before in
     let p2 = p3 .before .before in
     let p1 = p2 .before .before in
-    rw
-    (held (p1 .before .counts-below .ensures) (p1 .if1 .left),
-     held (p2 .before .frames-among .ensures) (p2 .if2 .left),
-     held (p3 .before .frames-fit .ensures) (p3 .if3 .left),
-     fails (c .before .others-fit .ensures) (c .if4 .taken))
+    rw (
+      held (p1 .before .counts-below .ensures) (p1 .if1 .left),
+      held (p2 .before .frames-among .ensures) (p2 .if2 .left),
+      held (p3 .before .frames-fit .ensures) (p3 .if3 .left),
+      fails (c .before .others-fit .ensures) (c .if4 .taken),
+    )
 
 none-open-requires : tie.Need-none-open-requires
 none-open-requires c κs = search needs
@@ -71,12 +74,13 @@ returns-5 c =
     let p3 = p4 .before .before in
     let p2 = p3 .before .before in
     let p1 = p2 .before .before in
-    rw
-    (held (p1 .before .counts-below .ensures) (p1 .if1 .left),
-     held (p2 .before .frames-among .ensures) (p2 .if2 .left),
-     held (p3 .before .frames-fit .ensures) (p3 .if3 .left),
-     held (p4 .before .others-fit .ensures) (p4 .if4 .left),
-     fails (c .before .none-open .ensures) (c .if5 .taken))
+    rw (
+      held (p1 .before .counts-below .ensures) (p1 .if1 .left),
+      held (p2 .before .frames-among .ensures) (p2 .if2 .left),
+      held (p3 .before .frames-fit .ensures) (p3 .if3 .left),
+      held (p4 .before .others-fit .ensures) (p4 .if4 .left),
+      fails (c .before .none-open .ensures) (c .if5 .taken),
+    )
 
 returns-6 : tie.Need-returns-6
 unfolding accumulationListed
@@ -86,13 +90,14 @@ returns-6 c =
     let p3 = p4 .before .before in
     let p2 = p3 .before .before in
     let p1 = p2 .before .before in
-    rw
-    (held (p1 .before .counts-below .ensures) (p1 .if1 .left),
-     held (p2 .before .frames-among .ensures) (p2 .if2 .left),
-     held (p3 .before .frames-fit .ensures) (p3 .if3 .left),
-     held (p4 .before .others-fit .ensures) (p4 .if4 .left),
-     held (p5 .before .none-open .ensures) (p5 .if5 .left),
-     c .if6 .taken)
+    rw (
+      held (p1 .before .counts-below .ensures) (p1 .if1 .left),
+      held (p2 .before .frames-among .ensures) (p2 .if2 .left),
+      held (p3 .before .frames-fit .ensures) (p3 .if3 .left),
+      held (p4 .before .others-fit .ensures) (p4 .if4 .left),
+      held (p5 .before .none-open .ensures) (p5 .if5 .left),
+      c .if6 .taken,
+    )
 
 returns-7 : tie.Need-returns-7
 unfolding accumulationListed
@@ -102,13 +107,14 @@ returns-7 c =
     let p3 = p4 .before .before in
     let p2 = p3 .before .before in
     let p1 = p2 .before .before in
-    rw
-    (held (p1 .before .counts-below .ensures) (p1 .if1 .left),
-     held (p2 .before .frames-among .ensures) (p2 .if2 .left),
-     held (p3 .before .frames-fit .ensures) (p3 .if3 .left),
-     held (p4 .before .others-fit .ensures) (p4 .if4 .left),
-     held (p5 .before .none-open .ensures) (p5 .if5 .left),
-     c .before .if6 .left)
+    rw (
+      held (p1 .before .counts-below .ensures) (p1 .if1 .left),
+      held (p2 .before .frames-among .ensures) (p2 .if2 .left),
+      held (p3 .before .frames-fit .ensures) (p3 .if3 .left),
+      held (p4 .before .others-fit .ensures) (p4 .if4 .left),
+      held (p5 .before .none-open .ensures) (p5 .if5 .left),
+      c .before .if6 .left,
+    )
 
 pub is-listed-spec : {M : Type 1} → statement M
 is-listed-spec =

@@ -50,10 +50,11 @@ returns-3 : tie.Need-returns-3
 unfolding steppedAt stepAccumulation
 returns-3 c =
     let k = c .before .before .before .before .before in
-    rw
-    (held (k .in-place .ensures) (c .before .before .before .before .if1 .left),
-     not-false (k .before .args .science) (c .before .before .before .if2 .left),
-     sym (c .before .before .joins-at .ensures) ∙ c .before .if3 .taken)
+    rw (
+      held (k .in-place .ensures) (c .before .before .before .before .if1 .left),
+      not-false (k .before .args .science) (c .before .before .before .if2 .left),
+      sym (c .before .before .joins-at .ensures) ∙ c .before .if3 .taken,
+    )
     (c .extend .ensures)
 
 renew-requires : tie.Need-renew-requires
@@ -65,10 +66,11 @@ returns-4 : tie.Need-returns-4
 unfolding steppedAt stepAccumulation
 returns-4 c =
     let k = c .before .before .before .before .before in
-    rw
-    (held (k .in-place .ensures) (c .before .before .before .before .if1 .left),
-     not-false (k .before .args .science) (c .before .before .before .if2 .left),
-     sym (c .before .before .joins-at .ensures) ∙ c .before .if3 .left)
+    rw (
+      held (k .in-place .ensures) (c .before .before .before .before .if1 .left),
+      not-false (k .before .args .science) (c .before .before .before .if2 .left),
+      sym (c .before .before .joins-at .ensures) ∙ c .before .if3 .left,
+    )
     (c .renew .ensures)
 
 pub step-spec : {M : Type 1} → statement M

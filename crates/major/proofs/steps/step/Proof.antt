@@ -6,7 +6,6 @@ use borrow.Author.Needs.{needs}
 use Rattle.major.proofs.steps.step.Statement.{statement}
 use Rattle.major.proofs.steps.step.Tie as tie
 use Rattle.major.proofs.steps.continues_at.Reads as continues-at-reads
-use Rattle.major.proofs.steps.has_room.Reads as has-room-reads
 use Rattle.major.proofs.steps.leave.Reads as leave-reads
 use Rattle.major.proofs.steps.stay.Reads as stay-reads
 use Rattle.major.proofs.steps.turn.Reads as turn-reads
@@ -23,8 +22,8 @@ returns c =
     let a = k .before .args in
     is-turned (a .m) (a .d) (a .mag) (a .range) (a .word) _ (fails (k .continues-at .ensures) (c .before .if1 .taken)) (c .turn .ensures)
 
-has-room-requires : tie.Need-has-room-requires
-has-room-requires c κs = search needs
+slot-free-requires : tie.Need-slot-free-requires
+slot-free-requires c κs = search needs
 
 leave-requires : tie.Need-leave-requires
 leave-requires c κs = search needs
@@ -35,12 +34,12 @@ returns-2 c =
     let k = r .before .before in
     let a = k .before .args in
     is-left (a .m) (a .d) (a .mag) (a .range) (a .word) _ (held (k .continues-at .ensures) (r .before .if1 .left))
-    (fails (r .has-room .ensures .0) (c .before .if2 .taken)) (r .has-room .ensures .1) (c .leave .ensures)
+    (fails (r .slot-free .ensures .0) (c .before .if2 .taken)) (r .slot-free .ensures .1) (c .leave .ensures)
 
 stay-requires : tie.Need-stay-requires
 stay-requires c κs =
     let r = c .before in
-    room-free _ _ (held (r .has-room .ensures .0) (c .if2 .left))
+    room-free _ _ (held (r .slot-free .ensures .0) (c .if2 .left))
 
 returns-3 : tie.Need-returns-3
 returns-3 c =
@@ -48,7 +47,7 @@ returns-3 c =
     let k = r .before .before in
     let a = k .before .args in
     is-stayed (a .m) (a .d) (a .mag) (a .range) (a .word) _ (held (k .continues-at .ensures) (r .before .if1 .left))
-    (held (r .has-room .ensures .0) (c .before .if2 .left)) (c .stay .ensures)
+    (held (r .slot-free .ensures .0) (c .before .if2 .left)) (c .stay .ensures)
 
 pub step-spec : {M : Type 1} → statement M
 step-spec =
@@ -57,7 +56,7 @@ step-spec =
     continues-at-requires
     turn-requires
     returns
-    has-room-requires
+    slot-free-requires
     leave-requires
     returns-2
     stay-requires

@@ -38,10 +38,11 @@ returns c =
     let f = h .args .f in
     let es = rw (k .before .carries-science .ensures) at (a .step .ensures) in
     let em = rw (k .carries-mag .ensures) at (m .step2 .ensures) in
-    rw
-    (j .accepted .ensures,
-     accumulation-here s f (h .args .d) (h .pre) (a .step .result) es,
-     major-here s f (h .args .d) (h .pre) (h .args .range) (m .step2 .result) em)
+    rw (
+      j .accepted .ensures,
+      accumulation-here s f (h .args .d) (h .pre) (a .step .result) es,
+      major-here s f (h .args .d) (h .pre) (h .args .range) (m .step2 .result) em,
+    )
 
 pub accept-spec : {M : Type 1} → statement M
 accept-spec =

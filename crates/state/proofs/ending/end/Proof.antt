@@ -64,14 +64,15 @@ returns-3 c =
     let l = o .before .before .before .before .before in
     let a = l .before .before .args in
     is-ended (a .state) (a .sized) _ (rw (not-false (a .sized) (l .before .if1 .left), held (l .listed .ensures) (o .before .before .before .before .if2 .left)))
-    (rw
-    (c .closing-work2 .ensures,
-     c .before .before .no-slot-work .ensures,
-     m .closing-work .ensures,
-     r .report2 .ensures,
-     r .before .report .ensures,
-     r .before .before .no-major .ensures,
-     o .no-accumulation .ensures))
+    (rw (
+      c .closing-work2 .ensures,
+      c .before .before .no-slot-work .ensures,
+      m .closing-work .ensures,
+      r .report2 .ensures,
+      r .before .report .ensures,
+      r .before .before .no-major .ensures,
+      o .no-accumulation .ensures,
+    ))
 
 pub end-spec : {M : Type 1} → statement M
 end-spec =

@@ -1,10 +1,10 @@
--- `major::steps::has_room` meets its contract.
+-- `major::steps::slot_free` meets its contract.
 -- Assumes nothing.
 use borrow.Author.Tests.{eq-eqb, ne-eqb}
-use Rattle.major.specs.Place.{hasRoom}
+use Rattle.major.specs.Place.{slotFree}
 use borrow.Author.Needs.{needs}
-use Rattle.major.proofs.steps.has_room.Statement.{statement}
-use Rattle.major.proofs.steps.has_room.Tie as tie
+use Rattle.major.proofs.steps.slot_free.Statement.{statement}
+use Rattle.major.proofs.steps.slot_free.Tie as tie
 
 cast-if1 : tie.Need-cast-if1
 cast-if1 c = search needs
@@ -13,7 +13,7 @@ shr-if1 : tie.Need-shr-if1
 shr-if1 c = search needs
 
 returns : tie.Need-returns
-unfolding hasRoom
+unfolding slotFree
 returns c = search (needs, eq-eqb, ne-eqb)
 
 cast-result : tie.Need-cast-result
@@ -23,8 +23,8 @@ shr-result : tie.Need-shr-result
 shr-result c = search needs
 
 returns-2 : tie.Need-returns-2
-unfolding hasRoom
+unfolding slotFree
 returns-2 c = search (needs, eq-eqb, ne-eqb)
 
-pub has-room-spec : {M : Type 1} → statement M
-has-room-spec = tie.close (tie.spec cast-if1 shr-if1 returns cast-result shr-result returns-2)
+pub slot-free-spec : {M : Type 1} → statement M
+slot-free-spec = tie.close (tie.spec cast-if1 shr-if1 returns cast-result shr-result returns-2)
