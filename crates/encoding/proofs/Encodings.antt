@@ -17,14 +17,16 @@ use Rattle.tables.proofs.Conds.{two}
 use Rattle.bits.specs.Numbers.{wordIn}
 use Rattle.bits.specs.Twelve.{Bytes}
 use Rattle.state.specs.declared.State.{State}
-use Rattle.state.specs.declared.accumulation.Accumulation.{Accumulation}
-use Rattle.state.specs.declared.clock.Clock.{Clock}
-use Rattle.state.specs.declared.major.Major.{Major}
+use Rattle.accumulation.specs.declared.Accumulation.{Accumulation}
+use Rattle.clock.specs.declared.Clock.{Clock}
+use Rattle.major.specs.declared.Major.{Major}
 use Rattle.state.specs.List.{fresh}
 use Rattle.tables.specs.Build.{build}
 use Rattle.tables.proofs.Built.{length-build, getD-build}
 use Rattle.encoding.specs.Numbers.{spread, wordByte, wordsBytes, wordAt, wordsOf}
-use Rattle.encoding.specs.States.{clockSize, accumulationSize, majorSize, stateSize, flag, clockBytes, accumulationBytes, majorBytes, stateBytes, isState, clockIn, accumulationIn, majorIn, majorOf, stateOf}
+use Rattle.encoding.specs.States.{clockSize, accumulationSize, majorSize, stateSize}
+use Rattle.encoding.specs.States.{flag, clockBytes, accumulationBytes, majorBytes, stateBytes}
+use Rattle.encoding.specs.States.{isState, clockIn, accumulationIn, majorIn, majorOf, stateOf}
 use Rattle.encoding.specs.Fitting.{Sized, Fitting}
 use Rattle.encoding.proofs.Sizes.{words-size, clock-size, accumulation-size, major-size, state-size}
 use Rattle.encoding.proofs.Digits.{spread-word, word-at, word-spread}
@@ -42,7 +44,9 @@ bytes-drop n b h i = rw (getD-drop n b i 0) (h (n + i))
 -- what is read from bytes and written again, from the end on: a part, a word, a byte, each followed by what stands there
 module _ (b : List ℕ) where
   then-part : (at n k : ℕ) (t : List ℕ) → at + n ≡ k → t ≡ drop k b → take n (drop at b) ++ t ≡ drop at b
-  then-part at n k t e q = ap (λ (x : List ℕ). take n (drop at b) ++ x) (q ∙ ap (λ (i : ℕ). drop i b) (sym e) ∙ sym (drop-drop n at b)) ∙ take-append-drop n (drop at b)
+  then-part at n k t e q =
+      ap (λ (x : List ℕ). take n (drop at b) ++ x) (q ∙ ap (λ (i : ℕ). drop i b) (sym e) ∙ sym (drop-drop n at b))
+      ∙ take-append-drop n (drop at b)
 
   then-byte : (at : ℕ) (t : List ℕ) → at < length b → t ≡ drop (at + 1) b → getD b at 0 ∷ t ≡ drop at b
   then-byte at t h q = ap (λ (x : List ℕ). getD b at 0 ∷ x) (q ∙ ap (λ (i : ℕ). drop i b) (add-one at)) ∙ sym (drop-cons b at 0 h)
@@ -78,7 +82,9 @@ zero-or-one (suc (suc v)) h = absurd (omega arith)
 module _ (b : List ℕ) (bytes : Bytes b) where
   clock-again : length b ≡ clockSize → getD b 0 0 ≤ 1 → clockBytes (clockIn b) ≡ b
   unfolding clockBytes
-  clock-again h l = ap (λ (v : ℕ). v ∷ spread (wordIn b 1 8) 8) (zero-or-one (getD b 0 0) l) ∙ then-byte b 0 (spread (wordIn b 1 8) 8) (omega arith) (last-word b bytes 1 8 (sym h))
+  clock-again h l =
+      let last = spread (wordIn b 1 8) 8 in
+      ap (λ (v : ℕ). v ∷ last) (zero-or-one (getD b 0 0) l) ∙ then-byte b 0 last (omega arith) (last-word b bytes 1 8 (sym h))
 
   accumulation-again : length b ≡ accumulationSize → accumulationBytes (accumulationIn b) ≡ b
   unfolding accumulationBytes
@@ -105,10 +111,12 @@ state-again b bytes t =
     let h : length b ≡ stateSize = eqb-true (length b) stateSize (s .0) in
     let low : getD (take 9 b) 0 0 ≤ 1 = rw (getD-take 9 b 0 0 (omega arith)) (leb-true (getD b 0 0) 1 (s .1)) in
     let m : length (drop 42 b) ≡ majorSize = simp length-drop (omega arith) in
-    let c : clockBytes (clockIn (take 9 b)) ≡ take 9 b = clock-again (take 9 b) (bytes-take 9 b bytes) (length-take-le 9 b (omega arith)) low in
-    let a : accumulationBytes (accumulationIn (take 33 (drop 9 b))) ≡ take 33 (drop 9 b) = accumulation-again (take 33 (drop 9 b)) (bytes-take 33 (drop 9 b) (bytes-drop 9 b bytes)) (length-take-le 33 (drop 9 b) (simp length-drop (omega arith))) in
-    let d : majorBytes (majorIn (drop 42 b)) ≡ drop 42 b = major-again (drop 42 b) (bytes-drop 42 b bytes) m in
-    rw (s .0, eq-eqb (length (drop 42 b)) majorSize m, c, a, d) (then-part b 0 9 9 (take 33 (drop 9 b) ++ drop 42 b) refl (then-part b 9 33 42 (drop 42 b) refl refl))
+    let n : length (take 33 (drop 9 b)) ≡ accumulationSize = length-take-le 33 (drop 9 b) (simp length-drop (omega arith)) in
+    let c = clock-again (take 9 b) (bytes-take 9 b bytes) (length-take-le 9 b (omega arith)) low in
+    let a = accumulation-again (take 33 (drop 9 b)) (bytes-take 33 (drop 9 b) (bytes-drop 9 b bytes)) n in
+    let d = major-again (drop 42 b) (bytes-drop 42 b bytes) m in
+    rw (s .0, eq-eqb (length (drop 42 b)) majorSize m, c, a, d)
+    (then-part b 0 9 9 (take 33 (drop 9 b) ++ drop 42 b) refl (then-part b 9 33 42 (drop 42 b) refl refl))
 
 pub one-encoding : (b b′ : List ℕ) → Bytes b → Bytes b′ → isState b ≡ true → isState b′ ≡ true → stateOf b ≡ stateOf b′ → b ≡ b′
 one-encoding b b′ h h′ t t′ e = sym (state-again b h t) ∙ ap stateBytes e ∙ state-again b′ h′ t′
@@ -122,7 +130,8 @@ clock-back : (c : Clock) → c .last < 2 ^ 64 → clockIn (clockBytes c) ≡ c
 unfolding clockBytes
 clock-back c h = rw (flag-back (c .any), word-spread (clockBytes c) 1 8 (c .last) (omega arith) h refl)
 
-accumulation-back : (a : Accumulation) → a .first < 2 ^ 64 → a .held < 2 ^ 64 → a .«last_count» < 2 ^ 64 → a .others < 2 ^ 64 → accumulationIn (accumulationBytes a) ≡ a
+accumulation-back : (a : Accumulation) → a .first < 2 ^ 64 → a .held < 2 ^ 64 → a .«last_count» < 2 ^ 64 → a .others < 2 ^ 64
+    → accumulationIn (accumulationBytes a) ≡ a
 unfolding accumulationBytes
 accumulation-back a h i j k =
     let b = accumulationBytes a in
@@ -150,7 +159,9 @@ words-back ws h = ext-getD 0 (wordsOf (wordsBytes ws)) ws (length-build (wordAt 
             ∙ ap (λ (x : ℕ). getD (spread (getD ws x 0) 2) ((2 * i + j) % 2) 0) d
             ∙ ap (λ (x : ℕ). getD (spread (getD ws i 0) 2) x 0) m
 
-major-back : (m : Major) → m .number < 2 ^ 64 → m .slots < 2 ^ 16 → m .«mag_slots» < 2 ^ 16 → length (m .ranges) ≡ 16 → Sized 16 (2 ^ 16) (m .words) → majorOf (majorBytes m) ≡ m
+major-back : (m : Major) → m .number < 2 ^ 64 → m .slots < 2 ^ 16 → m .«mag_slots» < 2 ^ 16 → length (m .ranges) ≡ 16
+    → Sized 16 (2 ^ 16) (m .words)
+    → majorOf (majorBytes m) ≡ m
 unfolding majorOf majorBytes
 major-back m h i j k w =
     let b = majorBytes m in
@@ -228,8 +239,10 @@ state-bytes s f =
     let type-is : Are (a .«last_type» ∷ []) = one-is (f .last-type) in
     let ranges-are : Are (m .ranges) = record { all = f .ranges .small } in
     let clock = append-are flag-is (spread-are (c .last) 8) in
-    let accumulation = append-are (spread-are (a .first) 8) (append-are (spread-are (a .held) 8) (append-are type-is (append-are (spread-are (a .«last_count») 8) (spread-are (a .others) 8)))) in
-    let major = append-are (spread-are (m .number) 8) (append-are (spread-are (m .slots) 2) (append-are (spread-are (m .«mag_slots») 2) (append-are ranges-are (words-are (m .words))))) in
+    let last = append-are type-is (append-are (spread-are (a .«last_count») 8) (spread-are (a .others) 8)) in
+    let accumulation = append-are (spread-are (a .first) 8) (append-are (spread-are (a .held) 8) last) in
+    let kept = append-are (spread-are (m .«mag_slots») 2) (append-are ranges-are (words-are (m .words))) in
+    let major = append-are (spread-are (m .number) 8) (append-are (spread-are (m .slots) 2) kept) in
     append-are clock (append-are accumulation major) .all
 
 pub state-is : (s : State) → length (s .major .ranges) ≡ 16 → isState (stateBytes s) ≡ true

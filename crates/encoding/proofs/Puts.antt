@@ -14,18 +14,18 @@ use Rattle.buffers.specs.Laying.{laid}
 use Rattle.buffers.proofs.Patches.{length-laid}
 use Rattle.record.specs.declared.Record.{Record}
 use Rattle.state.specs.declared.State.{State}
-use Rattle.state.specs.declared.accumulation.AccumulationReport.{AccumulationReport}
+use Rattle.state.specs.declared.closed.Closed.{Closed}
 use Rattle.state.specs.declared.deciding.Answer.the-variants.{Refused, Accepted}
 use Rattle.state.specs.declared.deciding.Stepped.{Stepped}
 use Rattle.state.specs.declared.deciding.Taken.{Taken}
-use Rattle.state.specs.declared.major.MajorReport.{MajorReport}
 use Rattle.encoding.specs.Fields.{fieldsSize, fieldBytes}
 use Rattle.encoding.specs.Reports.{closedSize, closedBytes, gapNumber, takenSize, takenBytes, reportSize, reportBytes, reportWritten}
-use Rattle.state.specs.declared.accumulation.Accumulation.{Accumulation}
-use Rattle.state.specs.declared.clock.Clock.{Clock}
-use Rattle.state.specs.declared.major.Major.{Major}
+use Rattle.accumulation.specs.declared.Accumulation.{Accumulation}
+use Rattle.clock.specs.declared.Clock.{Clock}
+use Rattle.major.specs.declared.Major.{Major}
 use Rattle.encoding.specs.Numbers.{spread, wordsBytes}
-use Rattle.encoding.specs.States.{clockSize, accumulationSize, majorSize, stateSize, flag, clockBytes, accumulationBytes, majorBytes, stateBytes, written}
+use Rattle.encoding.specs.States.{clockSize, accumulationSize, majorSize, stateSize, written}
+use Rattle.encoding.specs.States.{flag, clockBytes, accumulationBytes, majorBytes, stateBytes}
 use Rattle.encoding.proofs.Sizes.{words-size, clock-size, accumulation-size, fields-size, taken-size}
 use Rattle.encoding.proofs.Rooms.{none, kept, part, laid-next, stored, all}
 
@@ -129,29 +129,31 @@ taken-put t found y r v h p q e =
     let g = stored f v r (omega arith) (rw k at e) in
     all g (sym h) ∙ rw q
 
-pub closed-put : (m : MajorReport) (a : AccumulationReport) (found z b₁ b₂ r₁ r₂ : List ℕ) (v w : ℕ)
+pub closed-put : (c : Closed) (found z b₁ b₂ r₁ r₂ : List ℕ) (v w : ℕ)
     → length found ≡ closedSize
-    → v ≡ flag (m .closed)
-    → z ≡ majorBytes (m .frame)
+    → v ≡ flag (c .major .closed)
+    → z ≡ majorBytes (c .major .frame)
     → length z ≡ length (take 60 (drop 1 (set found 0 v)))
-    → b₁ ≡ spread (a .first) 8
-    → b₂ ≡ spread (a .held) 8
-    → w ≡ flag (a .closed)
+    → b₁ ≡ spread (c .accumulation .first) 8
+    → b₂ ≡ spread (c .accumulation .held) 8
+    → w ≡ flag (c .accumulation .closed)
     → r₁ ≡ laid b₁ (set (take 1 (set found 0 v) ++ (z ++ drop 60 (drop 1 (set found 0 v)))) 61 w) 62
     → r₂ ≡ laid b₂ r₁ 70
-    → r₂ ≡ written closedSize (closedBytes m a) found
+    → r₂ ≡ written closedSize (closedBytes c) found
 unfolding closedBytes
-closed-put m a found z b₁ b₂ r₁ r₂ v w h p q l p₁ p₂ k e₁ e₂ =
+closed-put c found z b₁ b₂ r₁ r₂ v w h p q l p₁ p₂ k e₁ e₂ =
+    let first = spread (c .accumulation .first) 8 in
+    let held = spread (c .accumulation .held) 8 in
     let s = set found 0 v in
     let d : length s ≡ 78 = length-set found 0 v ∙ h in
     let n : length (take 60 (drop 1 s)) ≡ 60 = length-take-le 60 (drop 1 s) (simp length-drop (omega arith)) in
     let f₁ = stored (none found) v s (omega arith) refl in
     let f₂ = part f₁ z (take 1 s ++ (z ++ drop 60 (drop 1 s))) 60 61 (omega arith) refl refl in
     let f₃ = stored f₂ w (set (take 1 s ++ (z ++ drop 60 (drop 1 s))) 61 w) (omega arith) refl in
-    let f₄ = laid-next f₃ (spread (a .first) 8) r₁ 70 refl (omega arith) (rw p₁ at e₁) in
-    let f₅ = laid-next f₄ (spread (a .held) 8) r₂ 78 refl (omega arith) (rw p₂ at e₂) in
+    let f₄ = laid-next f₃ first r₁ 70 refl (omega arith) (rw p₁ at e₁) in
+    let f₅ = laid-next f₄ held r₂ 78 refl (omega arith) (rw p₂ at e₂) in
     all f₅ (sym h)
-    ∙ ap (λ (x : List ℕ). v ∷ x) (append-assoc (z ++ (w ∷ [])) (spread (a .first) 8) (spread (a .held) 8) ∙ append-assoc z (w ∷ []) (spread (a .first) 8 ++ spread (a .held) 8))
+    ∙ ap (λ (x : List ℕ). v ∷ x) (append-assoc (z ++ (w ∷ [])) first held ∙ append-assoc z (w ∷ []) (first ++ held))
     ∙ rw (q, p, k, eq-eqb (length found) closedSize h)
 
 pub closed-kept : (found z b₁ b₂ r₁ r₂ : List ℕ) (v w : ℕ)
@@ -182,7 +184,7 @@ pub report-put : (x : Stepped) (t : Taken) (found y z r : List ℕ) (n : ℕ)
     → x .answer ≡ Accepted t
     → y ≡ takenBytes t
     → n ≡ length (y ++ drop 29 found) - 29
-    → z ≡ written closedSize (closedBytes (x .major) (x .accumulation)) (take n (drop 29 (y ++ drop 29 found)))
+    → z ≡ written closedSize (closedBytes (x .closed)) (take n (drop 29 (y ++ drop 29 found)))
     → length z ≡ length (take n (drop 29 (y ++ drop 29 found)))
     → r ≡ take 29 (y ++ drop 29 found) ++ (z ++ drop n (drop 29 (y ++ drop 29 found)))
     → r ≡ reportWritten x found
@@ -192,6 +194,6 @@ report-put x t found y z r n h a p l q k e =
     let f₁ = part (none found) y s 29 29 (sym (ap length p ∙ taken-size t)) refl refl in
     let d : length s ≡ 107 = kept f₁ (omega arith) ∙ h in
     let m : length (take n (drop 29 s)) ≡ n = length-take-le n (drop 29 s) (simp length-drop (omega arith)) in
-    let c : z ≡ closedBytes (x .major) (x .accumulation) = q ∙ rw (eq-eqb (length (take n (drop 29 s))) closedSize (omega arith)) in
+    let c : z ≡ closedBytes (x .closed) = q ∙ rw (eq-eqb (length (take n (drop 29 s))) closedSize (omega arith)) in
     let f₂ = part f₁ z r n 107 (omega arith) (omega arith) e in
     all f₂ (sym h) ∙ rw (eq-eqb (length found) reportSize h, a, p, c)

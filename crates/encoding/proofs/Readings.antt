@@ -9,9 +9,9 @@ use lib.Seq.{take-all}
 use borrow.Author.Tests.{eq-eqb}
 use Rattle.bits.specs.Numbers.{wordIn}
 use Rattle.state.specs.declared.State.{State}
-use Rattle.state.specs.declared.accumulation.Accumulation.{Accumulation}
-use Rattle.state.specs.declared.clock.Clock.{Clock}
-use Rattle.state.specs.declared.major.Major.{Major}
+use Rattle.accumulation.specs.declared.Accumulation.{Accumulation}
+use Rattle.clock.specs.declared.Clock.{Clock}
+use Rattle.major.specs.declared.Major.{Major}
 use Rattle.encoding.specs.Numbers.{wordsOf}
 use Rattle.encoding.specs.States.{clockSize, accumulationSize, majorSize, stateSize, part, clockIn, accumulationIn, majorIn, majorOf, stateOf}
 

@@ -7,16 +7,16 @@ use native.Mathlib.Omega.{arith}
 use lib.ListN.{length, length-append}
 use Rattle.record.specs.declared.Record.{Record}
 use Rattle.state.specs.declared.State.{State}
-use Rattle.state.specs.declared.accumulation.Accumulation.{Accumulation}
-use Rattle.state.specs.declared.accumulation.AccumulationReport.{AccumulationReport}
-use Rattle.state.specs.declared.clock.Clock.{Clock}
+use Rattle.accumulation.specs.declared.Accumulation.{Accumulation}
+use Rattle.clock.specs.declared.Clock.{Clock}
+use Rattle.state.specs.declared.closed.Closed.{Closed}
 use Rattle.state.specs.declared.deciding.Taken.{Taken}
-use Rattle.state.specs.declared.major.Major.{Major}
-use Rattle.state.specs.declared.major.MajorReport.{MajorReport}
+use Rattle.major.specs.declared.Major.{Major}
 use Rattle.tables.proofs.Built.{length-build}
 use Rattle.encoding.specs.Numbers.{spread, wordByte, wordsBytes}
 use Rattle.encoding.specs.Fields.{fieldsSize, fieldBytes}
-use Rattle.encoding.specs.States.{clockSize, accumulationSize, majorSize, stateSize, clockBytes, accumulationBytes, majorBytes, stateBytes}
+use Rattle.encoding.specs.States.{clockSize, accumulationSize, majorSize, stateSize}
+use Rattle.encoding.specs.States.{clockBytes, accumulationBytes, majorBytes, stateBytes}
 use Rattle.encoding.specs.Reports.{closedSize, closedBytes, takenSize, takenBytes}
 
 pub length-spread : (x n : ℕ) → length (spread x n) ≡ n
@@ -47,9 +47,9 @@ pub fields-size : (f : Record) → length (fieldBytes f) ≡ fieldsSize
 unfolding fieldBytes
 fields-size f = refl
 
-pub closed-size : (m : MajorReport) (a : AccumulationReport) → length (m .frame .ranges) ≡ 16 → length (closedBytes m a) ≡ closedSize
+pub closed-size : (c : Closed) → length (c .major .frame .ranges) ≡ 16 → length (closedBytes c) ≡ closedSize
 unfolding closedBytes
-closed-size m a h = simp (length-append, major-size (m .frame) h)
+closed-size c h = simp (length-append, major-size (c .major .frame) h)
 
 pub taken-size : (t : Taken) → length (takenBytes t) ≡ takenSize
 unfolding takenBytes

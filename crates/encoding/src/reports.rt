@@ -10,20 +10,21 @@ use crate::fields::put_fields;
 use crate::numbers::bytes8;
 use crate::states::flag_of;
 use crate::states::put_major;
-use state::AccumulationReport;
+use accumulation::Gap;
 use state::Answer;
-use state::Gap;
-use state::MajorReport;
+use state::Closed;
 use state::Stepped;
 use state::Taken;
 
 // Into a room of CLOSED bytes; a room of another size stays as found.
-pub fn put_closed(major: MajorReport, accumulation: AccumulationReport, room: &mut [u8])
-    ensures { λ _. ⌜ now (room .exit) ≡ written closedSize (closedBytes major accumulation) (now (room .entry)) ⌝ }
+pub fn put_closed(closed: Closed, room: &mut [u8])
+    ensures { λ _. ⌜ now (room .exit) ≡ written closedSize (closedBytes closed) (now (room .entry)) ⌝ }
 {
     if room.len() != CLOSED {
         return;
     }
+    let major = closed.major;
+    let accumulation = closed.accumulation;
     room[0] = flag_of(major.closed);
     put_major(major.frame, &mut room[1..61]);
     let first = bytes8(accumulation.first);
@@ -65,7 +66,7 @@ pub fn put_report(stepped: Stepped, room: &mut [u8])
         Answer::Refused(_) => {}
         Answer::Accepted(taken) => {
             put_taken(taken, &mut room[..FIELDS + 1]);
-            put_closed(stepped.major, stepped.accumulation, &mut room[FIELDS + 1..]);
+            put_closed(stepped.closed, &mut room[FIELDS + 1..]);
         }
     }
 }

@@ -1,7 +1,9 @@
 // The state as bytes, and back.
 ghost use mathlib.Core.Path.{_≡_};
 ghost use lib.ListN.{length};
-ghost use Rattle.encoding.specs.States.{clockSize, accumulationSize, majorSize, stateSize, flag, clockBytes, accumulationBytes, majorBytes, stateBytes, isState, clockIn, accumulationIn, majorIn, majorOf, stateOf, written};
+ghost use Rattle.encoding.specs.States.{clockSize, accumulationSize, majorSize, stateSize, written};
+ghost use Rattle.encoding.specs.States.{flag, clockBytes, accumulationBytes, majorBytes, stateBytes};
+ghost use Rattle.encoding.specs.States.{isState, clockIn, accumulationIn, majorIn, majorOf, stateOf};
 use crate::MAJOR;
 use crate::STATE;
 use crate::numbers::bytes2;
@@ -9,9 +11,9 @@ use crate::numbers::bytes8;
 use crate::numbers::ranges_of;
 use crate::numbers::words_bytes;
 use crate::numbers::words_of;
-use state::Accumulation;
-use state::Clock;
-use state::Major;
+use accumulation::Accumulation;
+use clock::Clock;
+use major::Major;
 use state::State;
 
 // Where the accumulation and the major frame stand in the state's bytes.
@@ -131,7 +133,7 @@ pub fn major_of(b: &[u8]) -> Major
     ensures { λ m. ⌜ m ≡ majorOf (now (b .entry)) ⌝ }
 {
     if b.len() != MAJOR {
-        return state::no_major();
+        return major::no_major();
     }
     whole_major(b)
 }

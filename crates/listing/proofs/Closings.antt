@@ -9,12 +9,15 @@ use lib.Count.{ones}
 use lib.Dec.{eqb, ltb}
 use lib.ListN.{length, length-append}
 use borrow.Author.Tests.{lt-ltb, le-ltb, eqb-false, not-true, not-false}
-use Rattle.state.specs.Major.{majorOpen, majorReported}
+use Rattle.clock.proofs.Laws.{last-below}
+use Rattle.accumulation.specs.declared.AccumulationReport.{AccumulationReport}
+use Rattle.major.specs.Major.{majorOpen, majorReported}
+use Rattle.major.specs.declared.MajorReport.{MajorReport}
+use Rattle.major.proofs.Facts.{slots-of, current-slot}
 use Rattle.state.specs.List.{listed}
 use Rattle.state.specs.declared.State.{State}
-use Rattle.state.specs.declared.accumulation.AccumulationReport.{AccumulationReport}
-use Rattle.state.specs.declared.major.MajorReport.{MajorReport}
-use Rattle.state.proofs.Facts.{facts, current-slot, last-below}
+use Rattle.state.specs.declared.closed.Closed.{Closed}
+use Rattle.state.proofs.Facts.{facts}
 use Rattle.listing.specs.Text.{ascii, Put}
 use Rattle.listing.specs.Lines.{lineSize, lineOf, frameLine, majorLine, accumLine, closedLines, closedSize}
 use Rattle.listing.proofs.Puts.{put-none}
@@ -75,7 +78,9 @@ module _ (d : List ℕ) (at : ℕ) where
   major-put r e p c l q = subst (λ (t : List ℕ). Put d at t e p) (sym (major-closed r (not-false (r .closed) c) (omega arith))) q
 
 length-accum : (r : AccumulationReport) (b : Bool) → r .closed ≡ b → length (accumLine r) ≤ lineSize
-length-accum r true e = subst (λ (t : List ℕ). length t ≤ lineSize) (sym (accum-closed r e)) (length-line (ascii "accum") (r .first) (ones (r .held)) (83 * ones (r .held)) refl)
+length-accum r true e =
+    let l = length-line (ascii "accum") (r .first) (ones (r .held)) (83 * ones (r .held)) refl in
+    subst (λ (t : List ℕ). length t ≤ lineSize) (sym (accum-closed r e)) l
 length-accum r false e = subst (λ (t : List ℕ). length t ≤ lineSize) (sym (accum-open r e)) (omega arith)
 
 length-frame : (r : MajorReport) (b c : Bool) → r .closed ≡ b → ltb (16 * r .frame .number) (2 ^ 64) ≡ c → length (majorLine r) ≤ lineSize
@@ -89,16 +94,20 @@ pub length-major : (r : MajorReport) → length (majorLine r) ≤ lineSize
 length-major r = length-frame r (r .closed) (ltb (16 * r .frame .number) (2 ^ 64)) refl refl
 
 -- "no line too long for its buffer, whatever the counts"
-pub length-closed : (m : MajorReport) (a : AccumulationReport) → length (closedLines m a) ≤ closedSize
+pub length-closed : (c : Closed) → length (closedLines c) ≤ closedSize
 unfolding closedLines
-length-closed m a = simp length-append (omega (arith, length-major m, length-accum a (a .closed) refl))
+length-closed c =
+    let a = c .accumulation in
+    simp length-append (omega (arith, length-major (c .major), length-accum a (a .closed) refl))
 
 -- no line is left out: a major frame that closes from a state that keeps 01's list has its number below 2^20
 pub always-listed : (s : State) → listed s ≡ true → majorOpen (s .major) ≡ true → majorLine (majorReported (s .major)) ≡ frameLine (s .major)
 unfolding majorLine
 always-listed s h o =
     let f = facts s h in
-    let n = current-slot (s .clock) (s .major) (f .current) (eqb-false (s .major .slots) 0 (not-true (eqb (s .major .slots) 0) o)) .0 in
-    let l = last-below (s .clock) (s .accumulation) (f .counted) in
-    let b : 16 * s .major .number < 2 ^ 64 = omega (arith, n, l) in
-    rw (o, lt-ltb (16 * s .major .number) (2 ^ 64) b) refl
+    let m = s .major in
+    let z : m .slots ≡ 0 → ⊥ = eqb-false (m .slots) 0 (not-true (eqb (m .slots) 0) o) in
+    let n = current-slot (s .clock) m (slots-of (s .clock) m (f .major) .current) z .0 in
+    let l = last-below (s .clock) (f .clock) in
+    let b : 16 * m .number < 2 ^ 64 = omega (arith, n, l) in
+    rw (o, lt-ltb (16 * m .number) (2 ^ 64) b) refl

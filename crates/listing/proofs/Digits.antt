@@ -41,7 +41,8 @@ found-none n places h =
     let e : drop 20 places ≡ [] = drop-of-length-le places {i = 20} (omega arith) in
     (sym (ap (λ (x : List ℕ). decimalIn 20 n ++ x) e ∙ append-nil (decimalIn 20 n)), h, omega arith)
 
-pub found-more : (n : ℕ) (places : List ℕ) (i rest : ℕ) → Found n places i rest → 10 ≤ rest → 0 < i → Found n (set places i (digit (rest % 10))) (i - 1) (rest / 10)
+pub found-more : (n : ℕ) (places : List ℕ) (i rest : ℕ) → Found n places i rest → 10 ≤ rest → 0 < i
+    → Found n (set places i (digit (rest % 10))) (i - 1) (rest / 10)
 found-more n places i rest f h k =
     let v = digit (rest % 10) in
     let s : suc (i - 1) ≡ i = omega arith in
@@ -51,7 +52,8 @@ found-more n places i rest f h k =
     ∙ ap (λ (x : List ℕ). decimalIn i (rest / 10) ++ x) (sym (drop-set places i v (omega arith))) in
     ((f .0 ∙ e ∙ ap (λ (j : ℕ). decimalIn j (rest / 10) ++ drop j (set places i v)) (sym s)), (length-set places i v ∙ f .1), omega arith)
 
-spelled-by : (n : ℕ) (places : List ℕ) (i rest : ℕ) → Found n places i rest → decimalIn (suc i) rest ≡ digit (rest % 10) ∷ [] → Spelled n (set places i (digit (rest % 10))) i
+spelled-by : (n : ℕ) (places : List ℕ) (i rest : ℕ) → Found n places i rest → decimalIn (suc i) rest ≡ digit (rest % 10) ∷ []
+    → Spelled n (set places i (digit (rest % 10))) i
 spelled-by n places i rest f e = record {
   text = drop-set places i (digit (rest % 10)) (omega arith) ∙ sym (f .0 ∙ ap (λ (x : List ℕ). x ++ drop (suc i) places) e);
   size = length-set places i (digit (rest % 10)) ∙ f .1;

@@ -52,6 +52,9 @@ module _ {d : List ℕ} {at : ℕ} {s e : List ℕ} {p : ℕ} (one : Put d at s 
   pub length-put : at + length s ≤ length d → length e ≡ length d
   length-put h = ap length (one .content) ∙ length-patch d at s h
 
+  pub room-after : (n : ℕ) → at + (length s + n) ≤ length d → p + n ≤ length e
+  room-after n h = omega (arith, one .place, length-put (omega arith))
+
   pub put-then : {t f : List ℕ} {q : ℕ} → at + length s ≤ length d → Put e p t f q → Put d at (s ++ t) f q
   put-then {t} {f} {q} h two = record {
     content =

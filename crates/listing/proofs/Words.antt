@@ -3,7 +3,7 @@
 use mathlib.Core.Path.{_≡_, refl, sym, ap, subst, _∙_}
 use mathlib.Core.Bool.{Bool, true, false}
 use mathlib.Core.List.{List, [], _∷_, _++_}
-use Prim.Native.Nat.{ℕ, _-_, _<_, _≤_}
+use Prim.Native.Nat.{ℕ, _+_, _-_, _<_, _≤_}
 use Prim.Native.String.{String}
 use native.Mathlib.Omega.{arith}
 use lib.Dec.{T, eqb, ltb, leb, eqb→eq, leb→le}
@@ -11,9 +11,10 @@ use lib.ListN.{length, getD, take, drop, length-append, List·getD-eq-default}
 use borrow.Author.Tests.{ltb-true, ltb-false}
 use Rattle.tables.specs.Upto.{both}
 use Rattle.tables.proofs.Upto.{both-left, both-right, upto-at}
-use Rattle.listing.specs.Text.{ascii, Put}
+use Rattle.listing.specs.Text.{ascii, space, Put}
+use Rattle.listing.specs.Decimal.{decimal}
 use Rattle.listing.specs.Refusals.{words, wordsOf, wordsSize, place, placeSize, refusalLine, refusalSize}
-use Rattle.listing.proofs.Puts.{put-none}
+use Rattle.listing.proofs.Puts.{put-none, put-then, room-after}
 use Rattle.listing.proofs.Digits.{length-decimal}
 
 -- all of them, one after another, and where those of each number end
@@ -108,3 +109,34 @@ length-place n offset = simp length-append (omega (arith, length-decimal n, leng
 pub length-refusal : (n offset rule : ℕ) → length (refusalLine n offset rule) ≤ refusalSize
 unfolding refusalLine
 length-refusal n offset rule = simp length-append (omega (arith, length-place n offset, length-decimal rule, length-words rule))
+
+-- the parts of such a line, each put where the one before ends; what is free after each
+module _ (n offset rule : ℕ) {d : List ℕ} {at : ℕ} (h : at + refusalSize ≤ length d)
+    {d₁ : List ℕ} {p₁ : ℕ} (o : Put d at (place n offset) d₁ p₁)
+    {d₂ : List ℕ} {p₂ : ℕ} (w : Put d₁ p₁ (ascii ": refused with") d₂ p₂)
+    {d₃ : List ℕ} {p₃ : ℕ} (r : Put d₂ p₂ (space ∷ decimal rule) d₃ p₃)
+    {d₄ : List ℕ} {p₄ : ℕ} (c : Put d₃ p₃ (ascii ": ") d₄ p₄) where
+  after-place : p₁ + 114 ≤ length d₁
+  after-place = room-after o 114 (omega (arith, h, length-place n offset))
+
+  after-with : p₂ + 100 ≤ length d₂
+  after-with = room-after w 100 (omega (arith, after-place))
+
+  after-number : p₃ + 79 ≤ length d₃
+  after-number = room-after r 79 (omega (arith, after-with, length-decimal rule))
+
+  pub after-colon : p₄ + 77 ≤ length d₄
+  after-colon = room-after c 77 (omega (arith, after-number))
+
+  module _ {d₅ : List ℕ} {p₅ : ℕ} (t : Put d₄ p₄ (wordsOf rule) d₅ p₅) where
+    pub after-words : p₅ + 1 ≤ length d₅
+    after-words = room-after t 1 (omega (arith, after-colon, length-words rule))
+
+    pub refusal-put : {d₆ : List ℕ} {p₆ : ℕ} → Put d₅ p₅ (ascii "\n") d₆ p₆ → Put d at (refusalLine n offset rule) d₆ p₆
+    unfolding refusalLine
+    refusal-put e =
+        put-then o (omega (arith, h, length-place n offset))
+        (put-then w (omega (arith, after-place))
+        (put-then r (omega (arith, after-with, length-decimal rule))
+        (put-then c (omega (arith, after-number))
+        (put-then t (omega (arith, after-colon, length-words rule)) e))))

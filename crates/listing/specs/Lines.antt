@@ -7,9 +7,10 @@ use lib.Count.{ones}
 use lib.Dec.{ltb}
 use Rattle.carriage.specs.Carriage.{scienceSize}
 use Rattle.mag.specs.Samples.{samplesSize}
-use Rattle.state.specs.declared.accumulation.AccumulationReport.{AccumulationReport}
-use Rattle.state.specs.declared.major.Major.{Major}
-use Rattle.state.specs.declared.major.MajorReport.{MajorReport}
+use Rattle.accumulation.specs.declared.AccumulationReport.{AccumulationReport}
+use Rattle.major.specs.declared.Major.{Major}
+use Rattle.major.specs.declared.MajorReport.{MajorReport}
+use Rattle.state.specs.declared.closed.Closed.{Closed}
 use Rattle.listing.specs.Text.{ascii, space}
 use Rattle.listing.specs.Decimal.{decimal, digits}
 
@@ -60,8 +61,8 @@ unfoldable pub accumLine : AccumulationReport → List ℕ
 accumLine r = cond (r .closed) (lineOf (ascii "accum") (r .first) (framesHeld r) (cellsHeld r)) []
 
 -- "One record may close both; the major frame is reported first."
-unfoldable pub closedLines : MajorReport → AccumulationReport → List ℕ
-closedLines m a = majorLine m ++ accumLine a
+unfoldable pub closedLines : Closed → List ℕ
+closedLines c = majorLine (c .major) ++ accumLine (c .accumulation)
 
 abbrev pub closedSize : ℕ
 closedSize = 2 * lineSize

@@ -3,15 +3,17 @@ ghost use Prim.Native.Nat.{_+_, _≤_};
 ghost use mathlib.Core.Path.{_≡_};
 ghost use lib.ListN.{length};
 ghost use Rattle.listing.specs.Text.{Put, Written};
-ghost use Rattle.listing.specs.Lines.{lineSize, headerSize, header, closedSize, closedLines, refusedSize, refusedLine, lineOf, majorLine, accumLine, wordSize};
+ghost use Rattle.listing.specs.Lines.{headerSize, header, wordSize, lineSize, lineOf, majorLine, accumLine};
+ghost use Rattle.listing.specs.Lines.{closedSize, closedLines, refusedSize, refusedLine};
 use crate::CLOSED;
 use crate::HEADER;
 use crate::REFUSED;
 use crate::decimal::put_number;
 use crate::text::put;
+use accumulation::AccumulationReport;
 use buffers::has_room;
-use state::AccumulationReport;
-use state::MajorReport;
+use major::MajorReport;
+use state::Closed;
 
 // The first number of a major frame's line is 16 times its own, which has to fit 64 bits.
 const NUMBERS: u64 = 1 << 60;
@@ -70,19 +72,14 @@ fn put_accumulation(report: AccumulationReport, out: &mut [u8], at: usize) -> us
 }
 
 // A line for each that closed, the major frame's first.
-pub fn put_closed(
-    major: MajorReport,
-    accumulation: AccumulationReport,
-    out: &mut [u8],
-    at: usize,
-) -> usize
-    ensures { λ r. ⌜ Written closedSize (closedLines major accumulation) (now (out .entry)) at (now (out .exit)) r ⌝ }
+pub fn put_closed(closed: Closed, out: &mut [u8], at: usize) -> usize
+    ensures { λ r. ⌜ Written closedSize (closedLines closed) (now (out .entry)) at (now (out .exit)) r ⌝ }
 {
     if !has_room(out.len(), at, CLOSED) {
         return at;
     }
-    let after_major = put_major(major, out, at);
-    put_accumulation(accumulation, out, after_major)
+    let after_major = put_major(closed.major, out, at);
+    put_accumulation(closed.accumulation, out, after_major)
 }
 
 pub fn put_refused(refused: u64, out: &mut [u8], at: usize) -> usize

@@ -40,7 +40,7 @@ unfolding majorListed
 is-listed c m f = rw (f .slots, f .current, f .empty) (f .start)
 
 -- its number and highest slot
-current-slot : (c : Clock) (m : Major) → majorNow c m ≡ true → (m .slots ≡ 0 → ⊥)
+pub current-slot : (c : Clock) (m : Major) → majorNow c m ≡ true → (m .slots ≡ 0 → ⊥)
     → (m .number ≡ c .last / 16) × (highest (m .slots) (slotOf (c .last)) ≡ true)
 unfolding majorNow
 current-slot c m e z = let b = two _ _ (second _ _ (ne-eqb (m .slots) 0 z) e) in (eqb-true _ _ (b .0), b .1)

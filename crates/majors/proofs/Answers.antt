@@ -17,9 +17,11 @@ use Rattle.cells.specs.Words.{said}
 use Rattle.mag.specs.Field.{fieldOf, isSample, hasField, fieldGiven, FieldIs, Answered}
 use Rattle.mag.specs.declared.nominal.Field.{Field}
 use Rattle.mag.specs.declared.nominal.Field.the-variants as field
-use Rattle.state.specs.declared.major.Major.{Major}
-use Rattle.state.specs.Major.{slots, frameSamples}
-use Rattle.majors.specs.Questions.{stored, isPlace, hasStored, hasNominal, magHeld, slotHeld, sampleSaid, wordSaid, nominalSaid, sampleGiven, wordGiven, nominalGiven, fieldAt, SampleIs, WordIs, NominalIs}
+use Rattle.major.specs.declared.Major.{Major}
+use Rattle.major.specs.Major.{slots, frameSamples}
+use Rattle.majors.specs.Questions.{stored, isPlace, hasStored, hasNominal, magHeld, slotHeld, fieldAt}
+use Rattle.majors.specs.Questions.{sampleSaid, wordSaid, nominalSaid, sampleGiven, wordGiven, nominalGiven}
+use Rattle.majors.specs.Questions.{SampleIs, WordIs, NominalIs}
 use Rattle.majors.specs.declared.Nominal.{Nominal}
 use Rattle.majors.specs.declared.Nominal.the-variants as nominal
 use Rattle.majors.specs.declared.Sample.{Sample}
@@ -57,16 +59,24 @@ module _ (samples : List ℤ) (s k : ℕ) where
       record { size = eqb-true (length samples) frameSamples (x .0); slot = ltb-true s slots (y .0); number = ltb-true k samplesSize (y .1) }
 
 module _ (m : Major) (samples : List ℤ) (s k : ℕ) where
-  is-sample : (x : Sample) → x ≡ cond (hasStored samples s k) (cond (magHeld m s) (sample.Value (stored samples s k)) sample.Absent) sample.NoSuchPlace → SampleIs m samples s k x
+  -- by the two tests
+  abbrev sampleBy : Bool → Bool → Sample
+  sampleBy p h = cond p (cond h (sample.Value (stored samples s k)) sample.Absent) sample.NoSuchPlace
+
+  is-sample : (x : Sample) → x ≡ sampleBy (hasStored samples s k) (magHeld m s) → SampleIs m samples s k x
   unfolding sampleSaid sampleGiven
-  is-sample x e = record { is = e; words = ap sampleSaid e ∙ w (hasStored samples s k) (magHeld m s); value = ap sampleGiven e ∙ v (hasStored samples s k) (magHeld m s) }
+  is-sample x e = record {
+    is = e;
+    words = ap sampleSaid e ∙ w (hasStored samples s k) (magHeld m s);
+    value = ap sampleGiven e ∙ v (hasStored samples s k) (magHeld m s);
+  }
     where
-      w : (p h : Bool) → sampleSaid (cond p (cond h (sample.Value (stored samples s k)) sample.Absent) sample.NoSuchPlace) ≡ said p h true
+      w : (p h : Bool) → sampleSaid (sampleBy p h) ≡ said p h true
       w true true = refl
       w true false = refl
       w false h = refl
 
-      v : (p h : Bool) → sampleGiven (cond p (cond h (sample.Value (stored samples s k)) sample.Absent) sample.NoSuchPlace) ≡ cond (p && h) (some (stored samples s k)) none
+      v : (p h : Bool) → sampleGiven (sampleBy p h) ≡ cond (p && h) (some (stored samples s k)) none
       v true true = refl
       v true false = refl
       v false h = refl
@@ -94,16 +104,19 @@ module _ (m : Major) (samples : List ℤ) (s k : ℕ) where
     sample-held l g = is-sample (sample.Value (stored samples s k)) (rw (has-sample l, eq-eqb (m .«mag_slots» / 2 ^ s % 2) 1 g))
 
 module _ (m : Major) (s : ℕ) where
-  is-word : (x : Word) → x ≡ cond (ltb s slots) (cond (slotHeld m s) (word.Value (getD (m .words) s 0)) word.Absent) word.NoSuchPlace → WordIs m s x
+  abbrev wordBy : Bool → Bool → Word
+  wordBy p h = cond p (cond h (word.Value (getD (m .words) s 0)) word.Absent) word.NoSuchPlace
+
+  is-word : (x : Word) → x ≡ wordBy (ltb s slots) (slotHeld m s) → WordIs m s x
   unfolding wordSaid wordGiven
   is-word x e = record { is = e; words = ap wordSaid e ∙ w (ltb s slots) (slotHeld m s); value = ap wordGiven e ∙ v (ltb s slots) (slotHeld m s) }
     where
-      w : (p h : Bool) → wordSaid (cond p (cond h (word.Value (getD (m .words) s 0)) word.Absent) word.NoSuchPlace) ≡ said p h true
+      w : (p h : Bool) → wordSaid (wordBy p h) ≡ said p h true
       w true true = refl
       w true false = refl
       w false h = refl
 
-      v : (p h : Bool) → wordGiven (cond p (cond h (word.Value (getD (m .words) s 0)) word.Absent) word.NoSuchPlace) ≡ cond (p && h) (some (getD (m .words) s 0)) none
+      v : (p h : Bool) → wordGiven (wordBy p h) ≡ cond (p && h) (some (getD (m .words) s 0)) none
       v true true = refl
       v true false = refl
       v false h = refl
@@ -118,17 +131,25 @@ module _ (m : Major) (s : ℕ) where
   word-held l g = is-word (word.Value (getD (m .words) s 0)) (rw (lt-ltb s slots l, eq-eqb (m .slots / 2 ^ s % 2) 1 g))
 
 module _ (m : Major) (samples : List ℤ) (s k : ℕ) where
-  is-nominal : (x : Nominal) → x ≡ cond (hasNominal m samples s k) (cond (magHeld m s) (nominal.Nanotesla (fieldAt m samples s k)) nominal.Absent) nominal.NoSuchPlace
+  abbrev nominalBy : Bool → Bool → Nominal
+  nominalBy p h = cond p (cond h (nominal.Nanotesla (fieldAt m samples s k)) nominal.Absent) nominal.NoSuchPlace
+
+  is-nominal : (x : Nominal) → x ≡ nominalBy (hasNominal m samples s k) (magHeld m s)
       → ((y : Float) → nominalGiven x ≡ some y → FieldIs (stored samples s k) (getD (m .ranges) s 0) y) → NominalIs m samples s k x
   unfolding nominalSaid nominalGiven
-  is-nominal x e f = record { is = e; words = ap nominalSaid e ∙ w (hasNominal m samples s k) (magHeld m s); value = ap nominalGiven e ∙ v (hasNominal m samples s k) (magHeld m s); exact = f }
+  is-nominal x e f = record {
+    is = e;
+    words = ap nominalSaid e ∙ w (hasNominal m samples s k) (magHeld m s);
+    value = ap nominalGiven e ∙ v (hasNominal m samples s k) (magHeld m s);
+    exact = f;
+  }
     where
-      w : (p h : Bool) → nominalSaid (cond p (cond h (nominal.Nanotesla (fieldAt m samples s k)) nominal.Absent) nominal.NoSuchPlace) ≡ said p h true
+      w : (p h : Bool) → nominalSaid (nominalBy p h) ≡ said p h true
       w true true = refl
       w true false = refl
       w false h = refl
 
-      v : (p h : Bool) → nominalGiven (cond p (cond h (nominal.Nanotesla (fieldAt m samples s k)) nominal.Absent) nominal.NoSuchPlace) ≡ cond (p && h) (some (fieldAt m samples s k)) none
+      v : (p h : Bool) → nominalGiven (nominalBy p h) ≡ cond (p && h) (some (fieldAt m samples s k)) none
       v true true = refl
       v true false = refl
       v false h = refl
@@ -151,14 +172,20 @@ module _ (m : Major) (samples : List ℤ) (s k : ℕ) where
       where
         go : (t : Bool) → hasField (stored samples s k) (getD (m .ranges) s 0) ≡ t → hasField (stored samples s k) (getD (m .ranges) s 0) ≡ false
         go false t = t
-        go true t = let d : field.NoSuchPlace ≡ field.Nanotesla (fieldOf (stored samples s k) (getD (m .ranges) s 0)) = sym e ∙ a .is ∙ rw t in let z : _≡_ {A = ℕ} 0 1 = cc in absurd (omega arith)
+        go true t =
+            let d : field.NoSuchPlace ≡ field.Nanotesla (fieldAt m samples s k) = sym e ∙ a .is ∙ rw t in
+            let z : _≡_ {A = ℕ} 0 1 = cc in
+            absurd (omega arith)
 
     inside : (x : Float) → f ≡ field.Nanotesla x → hasField (stored samples s k) (getD (m .ranges) s 0) ≡ true
     inside x e = go (hasField (stored samples s k) (getD (m .ranges) s 0)) refl
       where
         go : (t : Bool) → hasField (stored samples s k) (getD (m .ranges) s 0) ≡ t → hasField (stored samples s k) (getD (m .ranges) s 0) ≡ true
         go true t = t
-        go false t = let d : field.Nanotesla x ≡ field.NoSuchPlace = sym e ∙ a .is ∙ rw t in let z : _≡_ {A = ℕ} 0 1 = cc in absurd (omega arith)
+        go false t =
+            let d : field.Nanotesla x ≡ field.NoSuchPlace = sym e ∙ a .is ∙ rw t in
+            let z : _≡_ {A = ℕ} 0 1 = cc in
+            absurd (omega arith)
 
     pub nominal-outside : f ≡ field.NoSuchPlace → NominalIs m samples s k nominal.NoSuchPlace
     unfolding hasNominal
@@ -175,6 +202,8 @@ module _ (m : Major) (samples : List ℤ) (s k : ℕ) where
     pub nominal-held : (x : Float) → f ≡ field.Nanotesla x → m .«mag_slots» / 2 ^ s % 2 ≡ 1 → NominalIs m samples s k (nominal.Nanotesla x)
     unfolding nominalGiven fieldGiven
     nominal-held x e g =
-        let d : field.Nanotesla x ≡ field.Nanotesla (fieldOf (stored samples s k) (getD (m .ranges) s 0)) = sym e ∙ a .is ∙ rw (inside x e) in
-        let v : x ≡ fieldOf (stored samples s k) (getD (m .ranges) s 0) = cc in
-        is-nominal (nominal.Nanotesla x) (rw (has-nominal x e, eq-eqb (m .«mag_slots» / 2 ^ s % 2) 1 g) (ap nominal.Nanotesla v)) (λ y q. a .exact y (ap fieldGiven e ∙ q))
+        let d : field.Nanotesla x ≡ field.Nanotesla (fieldAt m samples s k) = sym e ∙ a .is ∙ rw (inside x e) in
+        let v : x ≡ fieldAt m samples s k = cc in
+        is-nominal (nominal.Nanotesla x)
+        (rw (has-nominal x e, eq-eqb (m .«mag_slots» / 2 ^ s % 2) 1 g) (ap nominal.Nanotesla v))
+        (λ y q. a .exact y (ap fieldGiven e ∙ q))

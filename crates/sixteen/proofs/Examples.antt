@@ -10,8 +10,8 @@ use Rattle.bits.specs.Numbers.{bitOf, bit, join, number}
 use Rattle.mag.specs.Field.{hasField, fieldOf}
 use Rattle.counts.specs.Codes.{lowest, highest, divisor, rangeOf}
 use Rattle.angles.specs.Angles.{lines, angleAt}
-use Rattle.state.specs.Accumulation.{isOpen, fewest, most, gap, joins}
-use Rattle.state.specs.declared.accumulation.Accumulation.{Accumulation}
+use Rattle.accumulation.specs.Accumulation.{isOpen, fewest, most, gap, joins}
+use Rattle.accumulation.specs.declared.Accumulation.{Accumulation}
 use Rattle.sixteen.specs.Examples.{Holds, table}
 
 -- an open accumulation joins by its last frame alone

@@ -13,8 +13,8 @@ use Rattle.mag.specs.Field.{hasField, fieldOf}
 use Rattle.counts.specs.Codes.{rangeOf}
 use Rattle.counts.specs.declared.codes.Divided.the-variants.{By1}
 use Rattle.angles.specs.Angles.{hasBin, angleAt}
-use Rattle.state.specs.Accumulation.{isOpen, gap, joins}
-use Rattle.state.specs.declared.accumulation.Accumulation.{Accumulation}
+use Rattle.accumulation.specs.Accumulation.{isOpen, gap, joins}
+use Rattle.accumulation.specs.declared.Accumulation.{Accumulation}
 
 pub data Example : Type 0 where
   -- a code, and the lowest and highest count that it may stand for

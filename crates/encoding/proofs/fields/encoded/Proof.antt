@@ -82,8 +82,14 @@ cast-t64 c = search needs
 
 returns : tie.Need-returns
 returns c =
-    encoded-is (c .before .before .before .before .before .before .before .before .before .before .before .before .before .before .before .before .before .before .args .f) (c .before .before .before .before .kind-number .result) (c .before .mark-of .result) (c .mark-of2 .result) (c .before .before .before .before .before .before .before .before .before .before .before .before .before .before .before .before .bits-of .result) (c .before .before .before .before .before .before .before .before .before .before .before .before .before .before .before .bits-of2 .result)
-    (c .before .before .before .before .kind-number .ensures) (c .before .mark-of .ensures) (c .mark-of2 .ensures) (c .before .before .before .before .before .before .before .before .before .before .before .before .before .before .before .before .bits-of .ensures) (c .before .before .before .before .before .before .before .before .before .before .before .before .before .before .before .bits-of2 .ensures)
+    let k₅ = c .before in
+    let k₄ = k₅ .before .before .before in
+    let k₃ = k₄ .before .before .before .before .before .before in
+    let k₂ = k₃ .before .before .before .before .before in
+    let k₁ = k₂ .before in
+    let k₀ = k₁ .before .before in
+    encoded-is (k₀ .args .f) (k₄ .kind-number .result) (k₅ .mark-of .result) (c .mark-of2 .result) (k₁ .bits-of .result) (k₂ .bits-of2 .result)
+    (k₄ .kind-number .ensures) (k₅ .mark-of .ensures) (c .mark-of2 .ensures) (k₁ .bits-of .ensures) (k₂ .bits-of2 .ensures)
 
 pub encoded-spec : {M : Type 1} → statement M
 encoded-spec =

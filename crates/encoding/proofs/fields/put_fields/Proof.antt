@@ -18,7 +18,11 @@ same-length : tie.Need-same-length
 same-length c = search needs
 
 returns : tie.Need-returns
-returns c = fields-put (c .before .before .before .before .before .before .before .args .f) (c .before .before .before .before .before .before .before .args .room .now) (c .before .before .before .before .before .encoded .result) (c .before .before .copy .last .1 .0) (c .before .before .before .before .before .encoded .ensures) (c .before .before .copy .ensures)
+returns c =
+    let k₂ = c .before .before in
+    let k₁ = k₂ .before .before .before in
+    let k₀ = k₁ .before .before in
+    fields-put (k₀ .args .f) (k₀ .args .room .now) (k₁ .encoded .result) (k₂ .copy .last .1 .0) (k₁ .encoded .ensures) (k₂ .copy .ensures)
 
 pub put-fields-spec : {M : Type 1} → statement M
 put-fields-spec =

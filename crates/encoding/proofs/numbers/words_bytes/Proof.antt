@@ -58,8 +58,9 @@ returns : tie.Need-returns Inv-loop μ-loop
 unfolding wordsBytes
 returns c =
     let l = c .before in
+    let f = wordByte (l .before .args .t1) in
     let e : l .loop .k ≡ 32 = omega arith in
-    l .loop .inv .1 ∙ ap (λ (k : ℕ). build (wordByte (l .before .args .t1)) k ++ drop k (replicate 32 0)) e ∙ build-all (wordByte (l .before .args .t1)) 32 (replicate 32 0) refl
+    l .loop .inv .1 ∙ ap (λ (k : ℕ). build f k ++ drop k (replicate 32 0)) e ∙ build-all f 32 (replicate 32 0) refl
 
 pub words-bytes-spec : {M : Type 1} → statement M
 words-bytes-spec =

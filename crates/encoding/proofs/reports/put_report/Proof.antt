@@ -45,13 +45,24 @@ put-closed-requires : tie.Need-put-closed-requires
 put-closed-requires c κs = search needs
 
 returns-2 : tie.Need-returns-2
-returns-2 c = report-none (c .before .before .before .before .args .stepped) (c .enum-told .given .0 .0) (c .before .before .before .before .args .room .now) (c .enum-told .given .1)
+returns-2 c =
+    let k = c .before .before .before .before in
+    report-none (k .args .stepped) (c .enum-told .given .0 .0) (k .args .room .now) (c .enum-told .given .1)
 
 same-length : tie.Need-same-length
 same-length c = search needs
 
 returns-3 : tie.Need-returns-3
-returns-3 c = report-put (c .before .before .before .before .before .before .before .before .before .before .before .before .before .args .stepped) (c .before .before .before .before .before .before .before .before .before .answer .given .0 .0) (c .before .before .before .before .before .before .before .before .before .before .before .before .before .args .room .now) (c .before .before .before .before .before .before .put-taken .last .1 .0) (c .before .before .put-closed .last .1 .1 .0) _ _ (c .before .before .before .before .before .before .before .before .before .before .before .if1 .left) (c .before .before .before .before .before .before .before .before .before .answer .given .1) (c .before .before .before .before .before .before .put-taken .ensures) refl (c .before .before .put-closed .ensures) (c .before .room2 .given .0) refl
+returns-3 c =
+    let k₅ = c .before in
+    let k₄ = k₅ .before in
+    let k₃ = k₄ .before .before .before .before in
+    let k₂ = k₃ .before .before .before in
+    let k₁ = k₂ .before .before in
+    let k₀ = k₁ .before .before in
+    report-put (k₀ .args .stepped) (k₂ .answer .given .0 .0) (k₀ .args .room .now) (k₃ .put-taken .last .1 .0)
+    (k₄ .put-closed .last .1 .0) _ _ (k₁ .if1 .left) (k₂ .answer .given .1) (k₃ .put-taken .ensures) refl
+    (k₄ .put-closed .ensures) (k₅ .room2 .given .0) refl
 
 pub put-report-spec : {M : Type 1} → statement M
 put-report-spec =

@@ -27,7 +27,11 @@ same-length : tie.Need-same-length
 same-length c = search needs
 
 returns : tie.Need-returns
-returns c = taken-put (c .before .before .before .before .before .before .args .taken) (c .before .before .before .before .before .before .args .room .now) (c .before .before .before .put-fields .last .1 .0) _ (c .gap-number .result) (c .before .before .before .before .before .before .pre) (c .before .before .before .put-fields .ensures) (c .gap-number .ensures) refl
+returns c =
+    let k₁ = c .before .before .before in
+    let k₀ = k₁ .before .before .before in
+    taken-put (k₀ .args .taken) (k₀ .args .room .now) (k₁ .put-fields .last .1 .0) _ (c .gap-number .result) (k₀ .pre)
+    (k₁ .put-fields .ensures) (c .gap-number .ensures) refl
 
 pub put-taken-spec : {M : Type 1} → statement M
 put-taken-spec =

@@ -20,7 +20,11 @@ word64-requires-4 : tie.Need-word64-requires-4
 word64-requires-4 c κs = search needs
 
 returns : tie.Need-returns
-returns c = rw (c .before .before .before .before .word64 .ensures, c .before .before .before .word642 .ensures, c .before .word643 .ensures, c .word644 .ensures)
+returns c =
+    let k₂ = c .before in
+    let k₁ = k₂ .before .before in
+    let k₀ = k₁ .before in
+    rw (k₀ .word64 .ensures, k₁ .word642 .ensures, k₂ .word643 .ensures, c .word644 .ensures)
 
 pub accumulation-of-spec : {M : Type 1} → statement M
 accumulation-of-spec =

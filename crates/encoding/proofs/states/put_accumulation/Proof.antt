@@ -1,8 +1,7 @@
 -- `encoding::states::put_accumulation` meets its contract.
 -- Assumes nothing.
-use mathlib.Core.Path.{sym, ap, _∙_}
-use lib.ListN.{length}
-use Rattle.encoding.proofs.Sizes.{accumulation-size}
+use mathlib.Core.Path.{_∙_}
+use lib.ListN.{length-set}
 use Rattle.encoding.proofs.Puts.{accumulation-put}
 use borrow.Author.Needs.{needs}
 use Rattle.encoding.proofs.states.put_accumulation.Statement.{statement}
@@ -48,10 +47,29 @@ lay-requires-4 : tie.Need-lay-requires-4
 lay-requires-4 c κs = search needs
 
 same-length : tie.Need-same-length
-same-length c = ap length (accumulation-put (c .before .before .before .before .before .before .before .before .before .before .before .before .before .before .before .before .before .before .before .before .before .before .before .before .before .args .a) (c .before .before .before .before .before .before .before .before .before .before .before .before .before .before .before .before .before .before .before .before .before .before .before .before .before .args .room .now) (c .before .before .before .before .before .before .before .before .before .before .before .before .before .before .before .before .before .before .before .before .before .before .before .bytes8 .result) (c .before .before .before .before .before .before .before .before .before .before .before .before .before .before .before .before .before .before .before .before .before .before .bytes82 .result) (c .before .before .before .before .before .before .before .before .before .before .before .before .before .before .before .before .before .before .before .before .before .bytes83 .result) (c .before .before .before .before .before .before .before .before .before .before .before .before .before .before .before .before .before .before .before .before .bytes84 .result) (c .before .before .before .before .before .before .before .before .before .before .before .before .before .before .before .before .before .lay .last .1 .0) (c .before .before .before .before .before .before .before .before .before .before .before .before .lay2 .last .1 .0) (c .before .before .before .before .before .before .before .lay3 .last .1 .0) (c .before .before .lay4 .last .1 .0) (c .before .before .before .before .before .before .before .before .before .before .before .before .before .before .before .before .before .before .before .before .before .before .before .before .before .pre) (c .before .before .before .before .before .before .before .before .before .before .before .before .before .before .before .before .before .before .before .before .before .before .before .bytes8 .ensures) (c .before .before .before .before .before .before .before .before .before .before .before .before .before .before .before .before .before .before .before .before .before .before .bytes82 .ensures) (c .before .before .before .before .before .before .before .before .before .before .before .before .before .before .before .before .before .before .before .before .before .bytes83 .ensures) (c .before .before .before .before .before .before .before .before .before .before .before .before .before .before .before .before .before .before .before .before .bytes84 .ensures) (c .before .before .before .before .before .before .before .before .before .before .before .before .before .before .before .before .before .lay .ensures) (c .before .before .before .before .before .before .before .before .before .before .before .before .lay2 .ensures) (c .before .before .before .before .before .before .before .lay3 .ensures) (c .before .before .lay4 .ensures)) ∙ accumulation-size (c .before .before .before .before .before .before .before .before .before .before .before .before .before .before .before .before .before .before .before .before .before .before .before .before .before .args .a) ∙ sym (c .before .before .before .before .before .before .before .before .before .before .before .before .before .before .before .before .before .before .before .before .before .before .before .before .before .pre)
+same-length c =
+    let k₃ = c .before .before .before .before .before .before in
+    let k₂ = k₃ .before .before .before .before .before in
+    let k₁ = k₂ .before .before .before .before .before in
+    let k₀ = k₁ .before .before .before .before .before .before .before .before .before in
+    let set-one = length-set (k₂ .before .lay2 .last .1 .0) 16 (k₀ .args .a .«last_type») in
+    c .before .room4 .given ∙ k₃ .room3 .given ∙ set-one ∙ k₂ .room2 .given ∙ k₁ .room .given
 
 returns : tie.Need-returns
-returns c = accumulation-put (c .before .before .before .before .before .before .before .before .before .before .before .before .before .before .before .before .before .before .before .before .before .before .before .before .before .args .a) (c .before .before .before .before .before .before .before .before .before .before .before .before .before .before .before .before .before .before .before .before .before .before .before .before .before .args .room .now) (c .before .before .before .before .before .before .before .before .before .before .before .before .before .before .before .before .before .before .before .before .before .before .before .bytes8 .result) (c .before .before .before .before .before .before .before .before .before .before .before .before .before .before .before .before .before .before .before .before .before .before .bytes82 .result) (c .before .before .before .before .before .before .before .before .before .before .before .before .before .before .before .before .before .before .before .before .before .bytes83 .result) (c .before .before .before .before .before .before .before .before .before .before .before .before .before .before .before .before .before .before .before .before .bytes84 .result) (c .before .before .before .before .before .before .before .before .before .before .before .before .before .before .before .before .before .lay .last .1 .0) (c .before .before .before .before .before .before .before .before .before .before .before .before .lay2 .last .1 .0) (c .before .before .before .before .before .before .before .lay3 .last .1 .0) (c .before .before .lay4 .last .1 .0) (c .before .before .before .before .before .before .before .before .before .before .before .before .before .before .before .before .before .before .before .before .before .before .before .before .before .pre) (c .before .before .before .before .before .before .before .before .before .before .before .before .before .before .before .before .before .before .before .before .before .before .before .bytes8 .ensures) (c .before .before .before .before .before .before .before .before .before .before .before .before .before .before .before .before .before .before .before .before .before .before .bytes82 .ensures) (c .before .before .before .before .before .before .before .before .before .before .before .before .before .before .before .before .before .before .before .before .before .bytes83 .ensures) (c .before .before .before .before .before .before .before .before .before .before .before .before .before .before .before .before .before .before .before .before .bytes84 .ensures) (c .before .before .before .before .before .before .before .before .before .before .before .before .before .before .before .before .before .lay .ensures) (c .before .before .before .before .before .before .before .before .before .before .before .before .lay2 .ensures) (c .before .before .before .before .before .before .before .lay3 .ensures) (c .before .before .lay4 .ensures)
+returns c =
+    let k₈ = c .before .before in
+    let k₇ = k₈ .before .before .before .before .before in
+    let k₆ = k₇ .before .before .before .before .before in
+    let k₅ = k₆ .before .before .before .before .before in
+    let k₄ = k₅ .before .before .before in
+    let k₃ = k₄ .before in
+    let k₂ = k₃ .before in
+    let k₁ = k₂ .before in
+    let k₀ = k₁ .before .before in
+    accumulation-put (k₀ .args .a) (k₀ .args .room .now) (k₁ .bytes8 .result) (k₂ .bytes82 .result)
+    (k₃ .bytes83 .result) (k₄ .bytes84 .result) (k₅ .lay .last .1 .0) (k₆ .lay2 .last .1 .0) (k₇ .lay3 .last .1 .0)
+    (k₈ .lay4 .last .1 .0) (k₀ .pre) (k₁ .bytes8 .ensures) (k₂ .bytes82 .ensures) (k₃ .bytes83 .ensures)
+    (k₄ .bytes84 .ensures) (k₅ .lay .ensures) (k₆ .lay2 .ensures) (k₇ .lay3 .ensures) (k₈ .lay4 .ensures)
 
 pub put-accumulation-spec : {M : Type 1} → statement M
 put-accumulation-spec =

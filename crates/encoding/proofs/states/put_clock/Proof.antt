@@ -1,8 +1,7 @@
 -- `encoding::states::put_clock` meets its contract.
 -- Assumes nothing.
-use mathlib.Core.Path.{sym, ap, _∙_}
-use lib.ListN.{length}
-use Rattle.encoding.proofs.Sizes.{clock-size}
+use mathlib.Core.Path.{_∙_}
+use lib.ListN.{length-set}
 use Rattle.encoding.proofs.Puts.{clock-put}
 use borrow.Author.Needs.{needs}
 use Rattle.encoding.proofs.states.put_clock.Statement.{statement}
@@ -24,10 +23,19 @@ lay-requires : tie.Need-lay-requires
 lay-requires c κs = search needs
 
 same-length : tie.Need-same-length
-same-length c = ap length (clock-put (c .before .before .before .before .before .before .before .before .args .clock) (c .before .before .before .before .before .before .before .before .args .room .now) (c .before .before .before .before .before .bytes8 .result) (c .before .before .lay .last .1 .0) (c .before .before .before .before .before .before .flag-of .result) (c .before .before .before .before .before .before .before .before .pre) (c .before .before .before .before .before .before .flag-of .ensures) (c .before .before .before .before .before .bytes8 .ensures) (c .before .before .lay .ensures)) ∙ clock-size (c .before .before .before .before .before .before .before .before .args .clock) ∙ sym (c .before .before .before .before .before .before .before .before .pre)
+same-length c =
+    let k₁ = c .before .before .before .before .before .before in
+    let k₀ = k₁ .before .before in
+    c .before .room .given ∙ length-set (k₀ .args .room .now) 0 (k₁ .flag-of .result)
 
 returns : tie.Need-returns
-returns c = clock-put (c .before .before .before .before .before .before .before .before .args .clock) (c .before .before .before .before .before .before .before .before .args .room .now) (c .before .before .before .before .before .bytes8 .result) (c .before .before .lay .last .1 .0) (c .before .before .before .before .before .before .flag-of .result) (c .before .before .before .before .before .before .before .before .pre) (c .before .before .before .before .before .before .flag-of .ensures) (c .before .before .before .before .before .bytes8 .ensures) (c .before .before .lay .ensures)
+returns c =
+    let k₃ = c .before .before in
+    let k₂ = k₃ .before .before .before in
+    let k₁ = k₂ .before in
+    let k₀ = k₁ .before .before in
+    clock-put (k₀ .args .clock) (k₀ .args .room .now) (k₂ .bytes8 .result) (k₃ .lay .last .1 .0) (k₁ .flag-of .result)
+    (k₀ .pre) (k₁ .flag-of .ensures) (k₂ .bytes8 .ensures) (k₃ .lay .ensures)
 
 pub put-clock-spec : {M : Type 1} → statement M
 put-clock-spec =

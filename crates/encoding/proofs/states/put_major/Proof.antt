@@ -53,8 +53,23 @@ same-length : tie.Need-same-length
 same-length c = search needs
 
 returns : tie.Need-returns
-returns c = let h : length (c .before .before .before .before .before .before .before .before .before .before .before .before .before .before .before .before .before .before .before .before .before .before .before .before .before .before .before .before .before .before .before .before .args .m .ranges) ≡ 16 = search (needs, c .before .before .before .before .before .before .before .before .before .before .before .before .before .before .before .before .before .before .before .before .before .before .before .before .before .before .before .before .before .before .before .before .good) in
-    major-put (c .before .before .before .before .before .before .before .before .before .before .before .before .before .before .before .before .before .before .before .before .before .before .before .before .before .before .before .before .before .before .before .before .args .m) (c .before .before .before .before .before .before .before .before .before .before .before .before .before .before .before .before .before .before .before .before .before .before .before .before .before .before .before .before .before .before .before .before .args .room .now) (c .before .before .before .before .before .before .before .before .before .before .before .before .before .before .before .before .before .before .before .before .before .before .before .before .before .before .before .before .before .before .bytes8 .result) (c .before .before .before .before .before .before .before .before .before .before .before .before .before .before .before .before .before .before .before .before .before .before .before .before .before .before .before .before .before .bytes2 .result) (c .before .before .before .before .before .before .before .before .before .before .before .before .before .before .before .before .before .before .before .before .before .before .before .before .before .before .before .before .bytes22 .result) (c .before .before .before .before .before .before .before .before .before .before .before .before .before .before .before .before .before .before .before .before .before .before .before .before .before .words-bytes .result) (c .before .before .before .before .before .before .before .before .before .before .before .before .before .before .before .before .before .before .before .before .before .before .lay .last .1 .0) (c .before .before .before .before .before .before .before .before .before .before .before .before .before .before .before .before .before .lay2 .last .1 .0) (c .before .before .before .before .before .before .before .before .before .before .before .before .lay3 .last .1 .0) (c .before .before .before .before .before .before .before .lay4 .last .1 .0) (c .before .before .lay5 .last .1 .0) (c .before .before .before .before .before .before .before .before .before .before .before .before .before .before .before .before .before .before .before .before .before .before .before .before .before .before .before .before .before .before .before .before .pre) h (c .before .before .before .before .before .before .before .before .before .before .before .before .before .before .before .before .before .before .before .before .before .before .before .before .before .before .before .before .before .before .bytes8 .ensures) (c .before .before .before .before .before .before .before .before .before .before .before .before .before .before .before .before .before .before .before .before .before .before .before .before .before .before .before .before .before .bytes2 .ensures) (c .before .before .before .before .before .before .before .before .before .before .before .before .before .before .before .before .before .before .before .before .before .before .before .before .before .before .before .before .bytes22 .ensures) (c .before .before .before .before .before .before .before .before .before .before .before .before .before .before .before .before .before .before .before .before .before .before .before .before .before .words-bytes .ensures) (c .before .before .before .before .before .before .before .before .before .before .before .before .before .before .before .before .before .before .before .before .before .before .lay .ensures) (c .before .before .before .before .before .before .before .before .before .before .before .before .before .before .before .before .before .lay2 .ensures) (c .before .before .before .before .before .before .before .before .before .before .before .before .lay3 .ensures) (c .before .before .before .before .before .before .before .lay4 .ensures) (c .before .before .lay5 .ensures)
+returns c =
+    let k₉ = c .before .before in
+    let k₈ = k₉ .before .before .before .before .before in
+    let k₇ = k₈ .before .before .before .before .before in
+    let k₆ = k₇ .before .before .before .before .before in
+    let k₅ = k₆ .before .before .before .before .before in
+    let k₄ = k₅ .before .before .before in
+    let k₃ = k₄ .before .before .before in
+    let k₂ = k₃ .before in
+    let k₁ = k₂ .before in
+    let k₀ = k₁ .before .before in
+    let h : length (k₀ .args .m .ranges) ≡ 16 = search (needs, k₀ .good .0 .1 .1 .1 .1 .1 .0) in
+    major-put (k₀ .args .m) (k₀ .args .room .now) (k₁ .bytes8 .result) (k₂ .bytes2 .result) (k₃ .bytes22 .result)
+    (k₄ .words-bytes .result) (k₅ .lay .last .1 .0) (k₆ .lay2 .last .1 .0) (k₇ .lay3 .last .1 .0)
+    (k₈ .lay4 .last .1 .0) (k₉ .lay5 .last .1 .0) (k₀ .pre) h (k₁ .bytes8 .ensures) (k₂ .bytes2 .ensures)
+    (k₃ .bytes22 .ensures) (k₄ .words-bytes .ensures) (k₅ .lay .ensures) (k₆ .lay2 .ensures) (k₇ .lay3 .ensures)
+    (k₈ .lay4 .ensures) (k₉ .lay5 .ensures)
 
 pub put-major-spec : {M : Type 1} → statement M
 put-major-spec =

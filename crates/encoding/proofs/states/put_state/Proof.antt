@@ -49,7 +49,16 @@ same-length : tie.Need-same-length
 same-length c = search needs
 
 returns-2 : tie.Need-returns-2
-returns-2 c = state-put (c .before .before .before .before .before .before .before .before .before .before .before .before .before .before .args .s) (c .before .before .before .before .before .before .before .before .before .before .before .before .before .before .args .room .now) (c .before .before .before .before .before .before .before .before .before .before .put-clock .last .1 .0) (c .before .before .before .before .before .before .put-accumulation .last .1 .0) (c .before .before .put-major .last .1 .0) (c .before .before .before .before .before .before .before .before .before .before .before .before .if1 .left) (c .before .before .before .before .before .before .before .before .before .before .put-clock .ensures) (c .before .before .before .before .before .before .put-accumulation .ensures) (c .before .before .put-major .ensures) _ _ _ _ refl refl refl (c .before .room3 .given .0) refl
+returns-2 c =
+    let k₅ = c .before in
+    let k₄ = k₅ .before in
+    let k₃ = k₄ .before .before .before .before in
+    let k₂ = k₃ .before .before .before .before in
+    let k₁ = k₂ .before .before in
+    let k₀ = k₁ .before .before in
+    state-put (k₀ .args .s) (k₀ .args .room .now) (k₂ .put-clock .last .1 .0) (k₃ .put-accumulation .last .1 .0)
+    (k₄ .put-major .last .1 .0) (k₁ .if1 .left) (k₂ .put-clock .ensures) (k₃ .put-accumulation .ensures)
+    (k₄ .put-major .ensures) _ _ _ _ refl refl refl (k₅ .room3 .given .0) refl
 
 pub put-state-spec : {M : Type 1} → statement M
 put-state-spec =

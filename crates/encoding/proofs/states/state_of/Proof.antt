@@ -50,7 +50,13 @@ major-of-requires : tie.Need-major-of-requires
 major-of-requires c κs = search needs
 
 returns-2 : tie.Need-returns-2
-returns-2 c = state-read (now (c .before .before .before .before .before .before .before .before .args .b)) (c .before .before .before .before .before .before .if1 .left) (c .before .before .before .before .clock-of .result) (c .before .before .accumulation-of .result) (c .major-of .result) (c .before .before .before .before .clock-of .ensures) (c .before .before .accumulation-of .ensures) (c .major-of .ensures)
+returns-2 c =
+    let k₃ = c .before .before in
+    let k₂ = k₃ .before .before in
+    let k₁ = k₂ .before .before in
+    let k₀ = k₁ .before .before in
+    state-read (now (k₀ .args .b)) (k₁ .if1 .left) (k₂ .clock-of .result) (k₃ .accumulation-of .result)
+    (c .major-of .result) (k₂ .clock-of .ensures) (k₃ .accumulation-of .ensures) (c .major-of .ensures)
 
 pub state-of-spec : {M : Type 1} → statement M
 state-of-spec =

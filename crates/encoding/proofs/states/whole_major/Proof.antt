@@ -40,7 +40,15 @@ word16-requires-2 : tie.Need-word16-requires-2
 word16-requires-2 c κs = search needs
 
 returns : tie.Need-returns
-returns c = major-read (now (c .before .before .before .before .before .before .before .before .args .b)) (c .before .before .before .before .before .before .before .before .pre) (c .before .before .word64 .result) (c .before .word16 .result) (c .word162 .result) (c .before .before .before .before .before .ranges-of .result) (c .before .before .before .words-of .result) (c .before .before .word64 .ensures) (c .before .word16 .ensures) (c .word162 .ensures) (c .before .before .before .before .before .ranges-of .ensures) (c .before .before .before .words-of .ensures)
+returns c =
+    let k₄ = c .before in
+    let k₃ = k₄ .before in
+    let k₂ = k₃ .before in
+    let k₁ = k₂ .before .before in
+    let k₀ = k₁ .before .before .before in
+    major-read (now (k₀ .args .b)) (k₀ .pre) (k₃ .word64 .result) (k₄ .word16 .result) (c .word162 .result)
+    (k₁ .ranges-of .result) (k₂ .words-of .result) (k₃ .word64 .ensures) (k₄ .word16 .ensures) (c .word162 .ensures)
+    (k₁ .ranges-of .ensures) (k₂ .words-of .ensures)
 
 pub whole-major-spec : {M : Type 1} → statement M
 whole-major-spec =

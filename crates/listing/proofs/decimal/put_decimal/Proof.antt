@@ -38,9 +38,11 @@ same-length c = search needs
 
 returns : tie.Need-returns
 returns c =
-    let a = c .before .before .before .before .before .before .before .before .before .before .args in
-    let p = c .before .before .before .before .before .before .before .spell in
-    let q = c .before .before .put in
+    let k₂ = c .before .before in
+    let k₁ = k₂ .before .before .before .before .before in
+    let a = k₁ .before .before .before .args in
+    let p = k₁ .spell in
+    let q = k₂ .put in
     subst (λ (t : List ℕ). Put (now (a .out)) (a .at) t (q .last .1 .0) (q .result)) (spelled-part (a .n) _ (p .result) (p .ensures)) (q .ensures)
 
 pub put-decimal-spec : {M : Type 1} → statement M

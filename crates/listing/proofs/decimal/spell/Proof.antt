@@ -6,7 +6,6 @@ use denote.Ref.{now}
 use mathlib.Core.Logic.{⊎-elim}
 use borrow.Author.Tests.{ltb-true, ltb-false}
 use Rattle.listing.proofs.Digits.{Found, found-none, found-more, found-last, found-full}
-use Rattle.listing.proofs.Digits.{Found, found-more, found-last, found-full}
 use native.Mathlib.Omega.{arith}
 use borrow.Author.Needs.{needs}
 use Rattle.listing.proofs.decimal.spell.Statement.{statement}
@@ -43,8 +42,10 @@ loop-less c =
 
 loop-again : tie.Need-loop-again Inv-loop μ-loop
 loop-again c =
-    let l = c .before .before in
-    found-more (l .before .args .n) (l .loop .places) (l .loop .i) (l .loop .rest) (l .loop .inv) (c .before .loop-test .taken) (ltb-true 0 (l .loop .i) (c .if1 .taken))
+    let k₁ = c .before in
+    let l = k₁ .before in
+    found-more (l .before .args .n) (l .loop .places) (l .loop .i) (l .loop .rest) (l .loop .inv)
+    (k₁ .loop-test .taken) (ltb-true 0 (l .loop .i) (c .if1 .taken))
 
 cast-places-2 : tie.Need-cast-places-2 Inv-loop μ-loop
 cast-places-2 c = search needs

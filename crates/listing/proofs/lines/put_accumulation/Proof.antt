@@ -20,7 +20,10 @@ slice-aggregate-put-line : tie.Need-slice-aggregate-put-line
 slice-aggregate-put-line c = search needs
 
 mul-put-line : tie.Need-mul-put-line
-mul-put-line c = record { fits = omega (arith, ones-le 64 (c .before .before .before .before .before .args .report .held) (c .before .struct-known2 .given .1 .1 .0 .fits)) }
+mul-put-line c =
+    let k₁ = c .before in
+    let k₀ = k₁ .before .before .before .before in
+    record { fits = omega (arith, ones-le 64 (k₀ .args .report .held) (k₁ .struct-known2 .given .1 .1 .0 .fits)) }
 
 put-line-requires : tie.Need-put-line-requires
 put-line-requires c κs = search needs

@@ -16,17 +16,21 @@ has-room-requires c κs = search needs
 returns : tie.Need-returns
 returns c =
     let a = c .before .before .before .args in
-    not-written 138 (closedLines (a .major) (a .accumulation)) (now (a .out)) (a .at) (no-room (now (a .out)) (a .at) 138 _ (c .before .has-room .ensures) (c .if1 .taken))
+    let l = no-room (now (a .out)) (a .at) 138 _ (c .before .has-room .ensures) (c .if1 .taken) in
+    not-written 138 (closedLines (a .closed)) (now (a .out)) (a .at) l
 
 put-major-requires : tie.Need-put-major-requires
 put-major-requires c κs =
-    let a = c .before .before .before .before .args in
-    omega (arith, has-room (now (a .out)) (a .at) 138 _ (c .before .before .has-room .ensures) (c .before .if1 .left))
+    let i = c .before in
+    let a = i .before .before .before .args in
+    omega (arith, has-room (now (a .out)) (a .at) 138 _ (i .before .has-room .ensures) (i .if1 .left))
 
 put-accumulation-requires : tie.Need-put-accumulation-requires
 put-accumulation-requires c κs =
-    let a = c .before .before .before .before .before .before .before .before .args in
-    omega (arith, length-major (a .major), has-room (now (a .out)) (a .at) 138 _ (c .before .before .before .before .before .before .has-room .ensures) (c .before .before .before .before .before .if1 .left))
+    let i = c .before .before .before .before .before in
+    let a = i .before .before .before .args in
+    let h = has-room (now (a .out)) (a .at) 138 _ (i .before .has-room .ensures) (i .if1 .left) in
+    omega (arith, length-major (a .closed .major), h)
 
 same-length : tie.Need-same-length
 same-length c = search needs
@@ -34,9 +38,12 @@ same-length c = search needs
 returns-2 : tie.Need-returns-2
 unfolding closedLines
 returns-2 c =
-    let a = c .before .before .before .before .before .before .before .before .before .before .before .args in
-    let h = has-room (now (a .out)) (a .at) 138 _ (c .before .before .before .before .before .before .before .before .before .has-room .ensures) (c .before .before .before .before .before .before .before .before .if1 .left) in
-    is-written (put-then (c .before .before .before .before .before .before .put-major .ensures) (omega (arith, h, length-major (a .major))) (c .before .before .put-accumulation .ensures)) 138 h
+    let m = c .before .before .before .before .before .before in
+    let i = m .before .before in
+    let a = i .before .before .before .args in
+    let h = has-room (now (a .out)) (a .at) 138 _ (i .before .has-room .ensures) (i .if1 .left) in
+    let l = length-major (a .closed .major) in
+    is-written (put-then (m .put-major .ensures) (omega (arith, h, l)) (c .before .before .put-accumulation .ensures)) 138 h
 
 pub put-closed-spec : {M : Type 1} → statement M
 put-closed-spec =

@@ -30,8 +30,11 @@ same-length c = search needs
 returns-2 : tie.Need-returns-2
 unfolding header
 returns-2 c =
-    let a = c .before .before .before .before .before .before .before .before .args in
-    is-written (c .before .before .put .ensures) 24 (has-room (now (a .out)) (a .at) 24 _ (c .before .before .before .before .before .before .has-room .ensures) (c .before .before .before .before .before .if1 .left))
+    let k₃ = c .before .before in
+    let k₂ = k₃ .before .before .before in
+    let k₁ = k₂ .before in
+    let a = k₁ .before .before .args in
+    is-written (k₃ .put .ensures) 24 (has-room (now (a .out)) (a .at) 24 _ (k₁ .has-room .ensures) (k₂ .if1 .left))
 
 pub put-header-spec : {M : Type 1} → statement M
 put-header-spec =

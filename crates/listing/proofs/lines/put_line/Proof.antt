@@ -16,12 +16,14 @@ put-number-requires c κs = search needs
 
 put-number-requires-2 : tie.Need-put-number-requires-2
 put-number-requires-2 c κs =
-    let a = c .before .before .before .before .before .before .before .before .before .before .before .args in
+    let k₁ = c .before .before .before .before .before .before in
+    let a = k₁ .before .before .before .before .before .args in
     omega (arith, length-decimal (a .first))
 
 put-number-requires-3 : tie.Need-put-number-requires-3
 put-number-requires-3 c κs =
-    let a = c .before .before .before .before .before .before .before .before .before .before .before .before .before .before .before .args in
+    let k₁ = c .before .before .before .before .before .before .before .before in
+    let a = k₁ .before .before .before .before .before .before .before .args in
     omega (arith, length-decimal (a .first), length-decimal (a .frames))
 
 slice-aggregate-put : tie.Need-slice-aggregate-put
@@ -29,7 +31,9 @@ slice-aggregate-put c = search needs
 
 put-requires-2 : tie.Need-put-requires-2
 put-requires-2 c κs =
-    let a = c .before .before .before .before .before .before .before .before .before .before .before .before .before .before .before .before .before .before .before .before .args in
+    let k₂ = c .before .before .before .before .before .before .before .before .before in
+    let k₁ = k₂ .before .before .before .before .before .before in
+    let a = k₁ .before .before .before .before .before .args in
     omega (arith, length-decimal (a .first), length-decimal (a .frames), length-decimal (a .cells))
 
 same-length : tie.Need-same-length
@@ -38,15 +42,20 @@ same-length c = search needs
 returns : tie.Need-returns
 unfolding lineOf
 returns c =
-    let a = c .before .before .before .before .before .before .before .before .before .before .before .before .before .before .before .before .before .before .before .before .before .before .before .args in
+    let k₅ = c .before .before in
+    let k₄ = k₅ .before .before .before .before .before in
+    let k₃ = k₄ .before .before .before .before in
+    let k₂ = k₃ .before .before .before .before in
+    let k₁ = k₂ .before .before .before .before in
+    let a = k₁ .before .before .before .before .args in
     let x = length-decimal (a .first) in
     let y = length-decimal (a .frames) in
     let z = length-decimal (a .cells) in
-    put-then (c .before .before .before .before .before .before .before .before .before .before .before .before .before .before .before .before .before .before .before .put .ensures) (omega arith)
-    (put-then (c .before .before .before .before .before .before .before .before .before .before .before .before .before .before .before .put-number .ensures) (omega arith)
-    (put-then (c .before .before .before .before .before .before .before .before .before .before .before .put-number2 .ensures) (omega arith)
-    (put-then (c .before .before .before .before .before .before .before .put-number3 .ensures) (omega arith)
-    (c .before .before .put2 .ensures))))
+    put-then (k₁ .put .ensures) (omega arith)
+    (put-then (k₂ .put-number .ensures) (omega arith)
+    (put-then (k₃ .put-number2 .ensures) (omega arith)
+    (put-then (k₄ .put-number3 .ensures) (omega arith)
+    (k₅ .put2 .ensures))))
 
 pub put-line-spec : {M : Type 1} → statement M
 put-line-spec =

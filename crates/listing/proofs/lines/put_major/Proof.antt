@@ -15,8 +15,10 @@ returns c =
 
 returns-2 : tie.Need-returns-2
 returns-2 c =
-    let a = c .before .before .before .before .before .before .args in
-    major-far (now (a .out)) (a .at) (a .report) (omega (arith, c .before .before .before .before .before .before .pre)) (c .before .before .before .if1 .left) (c .if2 .taken)
+    let k₁ = c .before .before .before in
+    let k₀ = k₁ .before .before .before in
+    let a = k₀ .args in
+    major-far (now (a .out)) (a .at) (a .report) (omega (arith, k₀ .pre)) (k₁ .if1 .left) (c .if2 .taken)
 
 slice-aggregate-put-line : tie.Need-slice-aggregate-put-line
 slice-aggregate-put-line c = search needs
@@ -25,13 +27,21 @@ mul-put-line : tie.Need-mul-put-line
 mul-put-line c = search needs
 
 cast-put-line : tie.Need-cast-put-line
-cast-put-line c = record { fits = omega (arith, ones-le 16 (c .before .before .before .before .before .before .before .before .before .args .report .frame .slots) (c .struct-known4 .given .1 .0 .fits)) }
+cast-put-line c =
+    let k = c .before .before .before .before .before .before .before .before .before in
+    record { fits = omega (arith, ones-le 16 (k .args .report .frame .slots) (c .struct-known4 .given .1 .0 .fits)) }
 
 cast-put-line-2 : tie.Need-cast-put-line-2
-cast-put-line-2 c = record { fits = omega (arith, ones-le 16 (c .before .before .before .before .before .before .before .before .before .before .args .report .frame .«mag_slots») (c .struct-known5 .given .1 .1 .0 .fits)) }
+cast-put-line-2 c =
+    let k₁ = c .before .before .before .before .before in
+    let k₀ = k₁ .before .before .before .before .before in
+    record { fits = omega (arith, ones-le 16 (k₀ .args .report .frame .«mag_slots») (c .struct-known5 .given .1 .1 .0 .fits)) }
 
 mul-put-line-2 : tie.Need-mul-put-line-2
-mul-put-line-2 c = record { fits = omega (arith, ones-le 16 (c .before .before .before .before .before .before .before .before .before .before .args .report .frame .«mag_slots») (c .struct-known5 .given .1 .1 .0 .fits)) }
+mul-put-line-2 c =
+    let k₁ = c .before .before .before .before .before in
+    let k₀ = k₁ .before .before .before .before .before in
+    record { fits = omega (arith, ones-le 16 (k₀ .args .report .frame .«mag_slots») (c .struct-known5 .given .1 .1 .0 .fits)) }
 
 put-line-requires : tie.Need-put-line-requires
 put-line-requires c κs = search needs
@@ -41,8 +51,11 @@ same-length c = search needs
 
 returns-3 : tie.Need-returns-3
 returns-3 c =
-    let a = c .before .before .before .before .before .before .before .before .before .before .before .before .before .before .args in
-    major-put (now (a .out)) (a .at) (a .report) _ _ (c .before .before .before .before .before .before .before .before .before .before .before .if1 .left) (c .before .before .before .before .before .before .before .before .if2 .left) (c .before .before .put-line .ensures)
+    let k₃ = c .before .before in
+    let k₂ = k₃ .before .before .before .before .before .before in
+    let k₁ = k₂ .before .before .before in
+    let a = k₁ .before .before .before .args in
+    major-put (now (a .out)) (a .at) (a .report) _ _ (k₁ .if1 .left) (k₂ .if2 .left) (k₃ .put-line .ensures)
 
 pub put-major-spec : {M : Type 1} → statement M
 put-major-spec =

@@ -40,7 +40,8 @@ slice-aggregate-put-2 c = search needs
 
 put-requires-2 : tie.Need-put-requires-2
 put-requires-2 c κs =
-    let i = c .before .before .before .before .before .before .before .before .before .before .before in
+    let k₁ = c .before .before .before .before .before .before in
+    let i = k₁ .before .before .before .before .before in
     let a = i .before .before .before .args in
     let h = has-room (now (a .out)) (a .at) 29 _ (i .before .has-room .ensures) (i .if1 .left) in
     omega (arith, h, length-decimal (a .refused))
@@ -51,11 +52,14 @@ same-length c = search needs
 returns-2 : tie.Need-returns-2
 unfolding refusedLine
 returns-2 c =
-    let i = c .before .before .before .before .before .before .before .before .before .before .before .before .before .before in
+    let k₃ = c .before .before in
+    let k₂ = k₃ .before .before .before .before .before in
+    let k₁ = k₂ .before .before .before .before in
+    let i = k₁ .before .before .before in
     let a = i .before .before .before .args in
     let h = has-room (now (a .out)) (a .at) 29 _ (i .before .has-room .ensures) (i .if1 .left) in
     is-written
-    (put-then (c .before .before .before .before .before .before .before .before .before .before .before .put .ensures) (omega (arith, h)) (put-then (c .before .before .before .before .before .before .before .put-number .ensures) (omega (arith, h, length-decimal (a .refused))) (c .before .before .put2 .ensures)))
+    (put-then (k₁ .put .ensures) (omega (arith, h)) (put-then (k₂ .put-number .ensures) (omega (arith, h, length-decimal (a .refused))) (k₃ .put2 .ensures)))
     29
     h
 

@@ -21,10 +21,16 @@ slice-aggregate-put-2 : tie.Need-slice-aggregate-put-2
 slice-aggregate-put-2 c = search needs
 
 put-requires-2 : tie.Need-put-requires-2
-put-requires-2 c κs = omega (arith, length-decimal (c .before .before .before .before .before .before .before .before .before .before .before .before .args .number))
+put-requires-2 c κs =
+    let k₁ = c .before .before .before .before .before .before in
+    let k₀ = k₁ .before .before .before .before .before .before in
+    omega (arith, length-decimal (k₀ .args .number))
 
 put-number-requires-2 : tie.Need-put-number-requires-2
-put-number-requires-2 c κs = omega (arith, length-decimal (c .before .before .before .before .before .before .before .before .before .before .before .before .before .before .before .before .args .number))
+put-number-requires-2 c κs =
+    let k₁ = c .before .before .before .before .before .before .before .before in
+    let k₀ = k₁ .before .before .before .before .before .before .before .before in
+    omega (arith, length-decimal (k₀ .args .number))
 
 same-length : tie.Need-same-length
 same-length c = search needs
@@ -32,11 +38,16 @@ same-length c = search needs
 returns : tie.Need-returns
 unfolding place
 returns c =
-    let n = length-decimal (c .before .before .before .before .before .before .before .before .before .before .before .before .before .before .before .before .before .before .before .args .number) in
-    put-then (c .before .before .before .before .before .before .before .before .before .before .before .before .before .before .before .put .ensures) (omega arith)
-    (put-then (c .before .before .before .before .before .before .before .before .before .before .before .put-number .ensures) (omega arith)
-    (put-then (c .before .before .before .before .before .before .put2 .ensures) (omega arith)
-    (c .before .before .put-number2 .ensures)))
+    let k₄ = c .before .before in
+    let k₃ = k₄ .before .before .before .before in
+    let k₂ = k₃ .before .before .before .before .before in
+    let k₁ = k₂ .before .before .before .before in
+    let k₀ = k₁ .before .before .before .before in
+    let n = length-decimal (k₀ .args .number) in
+    put-then (k₁ .put .ensures) (omega arith)
+    (put-then (k₂ .put-number .ensures) (omega arith)
+    (put-then (k₃ .put2 .ensures) (omega arith)
+    (k₄ .put-number2 .ensures)))
 
 pub put-place-spec : {M : Type 1} → statement M
 put-place-spec =

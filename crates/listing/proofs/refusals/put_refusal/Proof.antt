@@ -3,9 +3,9 @@
 use denote.Ref.{now}
 use Rattle.listing.specs.Refusals.{refusalLine}
 use Rattle.listing.proofs.Digits.{length-decimal}
-use Rattle.listing.proofs.Words.{length-words, length-place}
+use Rattle.listing.proofs.Words.{length-place, after-colon, after-words, refusal-put}
 use Rattle.buffers.proofs.Patches.{no-room, has-room}
-use Rattle.listing.proofs.Puts.{put-then, is-written, not-written}
+use Rattle.listing.proofs.Puts.{is-written, not-written}
 use native.Mathlib.Omega.{arith}
 use borrow.Author.Needs.{needs}
 use Rattle.listing.proofs.refusals.put_refusal.Statement.{statement}
@@ -16,8 +16,10 @@ has-room-requires c κs = search needs
 
 returns : tie.Need-returns
 returns c =
-    let a = c .before .before .before .args in
-    not-written 170 (refusalLine (a .number) (a .offset) (a .rule)) (now (a .out)) (a .at) (no-room (now (a .out)) (a .at) 170 _ (c .before .has-room .ensures) (c .if1 .taken))
+    let k₁ = c .before in
+    let a = k₁ .before .before .args in
+    not-written 170 (refusalLine (a .number) (a .offset) (a .rule)) (now (a .out)) (a .at)
+    (no-room (now (a .out)) (a .at) 170 _ (k₁ .has-room .ensures) (c .if1 .taken))
 
 put-place-requires : tie.Need-put-place-requires
 put-place-requires c κs =
@@ -38,7 +40,8 @@ put-requires c κs =
 
 put-number-requires : tie.Need-put-number-requires
 put-number-requires c κs =
-    let i = c .before .before .before .before .before .before .before .before .before .before in
+    let k₁ = c .before .before .before .before .before in
+    let i = k₁ .before .before .before .before .before in
     let a = i .before .before .before .args in
     let h = has-room (now (a .out)) (a .at) 170 _ (i .before .has-room .ensures) (i .if1 .left) in
     omega (arith, h, length-place (a .number) (a .offset))
@@ -48,49 +51,59 @@ slice-aggregate-put-2 c = search needs
 
 put-requires-2 : tie.Need-put-requires-2
 put-requires-2 c κs =
-    let i = c .before .before .before .before .before .before .before .before .before .before .before .before .before .before .before in
+    let k₁ = c .before .before .before .before .before .before .before .before in
+    let i = k₁ .before .before .before .before .before .before .before in
     let a = i .before .before .before .args in
     let h = has-room (now (a .out)) (a .at) 170 _ (i .before .has-room .ensures) (i .if1 .left) in
     omega (arith, h, length-place (a .number) (a .offset), length-decimal (a .rule))
 
 put-words-requires : tie.Need-put-words-requires
 put-words-requires c κs =
-    let i = c .before .before .before .before .before .before .before .before .before .before .before .before .before .before .before .before .before .before .before in
+    let k₄ = c .before .before .before in
+    let k₃ = k₄ .before .before .before .before .before in
+    let k₂ = k₃ .before .before .before .before in
+    let k₁ = k₂ .before .before .before .before .before in
+    let i = k₁ .before .before in
     let a = i .before .before .before .args in
     let h = has-room (now (a .out)) (a .at) 170 _ (i .before .has-room .ensures) (i .if1 .left) in
-    omega (arith, h, length-place (a .number) (a .offset), length-decimal (a .rule))
+    let g =
+    after-colon (a .number) (a .offset) (a .rule) h
+    (k₁ .put-place .ensures) (k₂ .put .ensures) (k₃ .put-number .ensures) (k₄ .put2 .ensures) in
+    omega (arith, g)
 
 slice-aggregate-put-3 : tie.Need-slice-aggregate-put-3
 slice-aggregate-put-3 c = search needs
 
 put-requires-3 : tie.Need-put-requires-3
 put-requires-3 c κs =
-    let i = c .before .before .before .before .before .before .before .before .before .before .before .before .before .before .before .before .before .before .before .before .before .before .before .before in
+    let k₅ = c .before .before .before .before in
+    let k₄ = k₅ .before .before .before .before in
+    let k₃ = k₄ .before .before .before .before .before in
+    let k₂ = k₃ .before .before .before .before in
+    let k₁ = k₂ .before .before .before .before .before in
+    let i = k₁ .before .before in
     let a = i .before .before .before .args in
     let h = has-room (now (a .out)) (a .at) 170 _ (i .before .has-room .ensures) (i .if1 .left) in
-    omega (arith, h, length-place (a .number) (a .offset), length-decimal (a .rule), length-words (a .rule))
+    after-words (a .number) (a .offset) (a .rule) h
+    (k₁ .put-place .ensures) (k₂ .put .ensures) (k₃ .put-number .ensures) (k₄ .put2 .ensures) (k₅ .put-words .ensures)
 
 same-length : tie.Need-same-length
 same-length c = search needs
 
 returns-2 : tie.Need-returns-2
-unfolding refusalLine
 returns-2 c =
-    let a = c .before .before .before .before .before .before .before .before .before .before .before .before .before .before .before .before .before .before .before .before .before .before .before .before .before .before .before .before .before .before .args in
-    let h =
-    has-room (now (a .out)) (a .at) 170 _
-    (c .before .before .before .before .before .before .before .before .before .before .before .before .before .before .before .before .before .before .before .before .before .before .before .before .before .before .before .before .has-room .ensures)
-    (c .before .before .before .before .before .before .before .before .before .before .before .before .before .before .before .before .before .before .before .before .before .before .before .before .before .before .before .if1 .left) in
-    let p = length-place (a .number) (a .offset) in
-    let r = length-decimal (a .rule) in
-    let w = length-words (a .rule) in
+    let k₆ = c .before .before in
+    let k₅ = k₆ .before .before .before .before .before in
+    let k₄ = k₅ .before .before .before .before in
+    let k₃ = k₄ .before .before .before .before .before in
+    let k₂ = k₃ .before .before .before .before in
+    let k₁ = k₂ .before .before .before .before .before in
+    let i = k₁ .before .before in
+    let a = i .before .before .before .args in
+    let h = has-room (now (a .out)) (a .at) 170 _ (i .before .has-room .ensures) (i .if1 .left) in
     is-written
-    (put-then (c .before .before .before .before .before .before .before .before .before .before .before .before .before .before .before .before .before .before .before .before .before .before .before .before .before .put-place .ensures) (omega (arith, h, p))
-    (put-then (c .before .before .before .before .before .before .before .before .before .before .before .before .before .before .before .before .before .before .before .before .put .ensures) (omega (arith, h, p))
-    (put-then (c .before .before .before .before .before .before .before .before .before .before .before .before .before .before .before .before .put-number .ensures) (omega (arith, h, p, r))
-    (put-then (c .before .before .before .before .before .before .before .before .before .before .before .put2 .ensures) (omega (arith, h, p, r))
-    (put-then (c .before .before .before .before .before .before .before .put-words .ensures) (omega (arith, h, p, r, w))
-    (c .before .before .put3 .ensures))))))
+    (refusal-put (a .number) (a .offset) (a .rule) h (k₁ .put-place .ensures) (k₂ .put .ensures) (k₃ .put-number .ensures)
+    (k₄ .put2 .ensures) (k₅ .put-words .ensures) (k₆ .put3 .ensures))
     170
     h
 

@@ -63,9 +63,13 @@ same-length c = search needs
 returns-3 : tie.Need-returns-3
 unfolding text ends
 returns-3 c =
-    let a = c .before .before .before .before .before .before .before .before .before .args in
-    let q = c .before .before .put in
-    subst (λ (t : List ℕ). Put (now (a .out)) (a .at) t (q .last .1 .0) (q .result)) (row-of (c .before .before .before .before .before .before .before .before .before .args .rule) (omega (arith, c .before .before .before .before .before .before .if2 .left)) .is) (q .ensures)
+    let k₂ = c .before .before in
+    let k₁ = k₂ .before .before .before .before in
+    let k₀ = k₁ .before .before .before in
+    let a = k₀ .args in
+    let q = k₂ .put in
+    subst (λ (t : List ℕ). Put (now (a .out)) (a .at) t (q .last .1 .0) (q .result))
+    (row-of (k₀ .args .rule) (omega (arith, k₁ .if2 .left)) .is) (q .ensures)
 
 pub put-words-spec : {M : Type 1} → statement M
 put-words-spec =
