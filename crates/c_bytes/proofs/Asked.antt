@@ -14,7 +14,7 @@ use Rattle.mag.specs.Field.{FieldIs}
 use Rattle.encoding.specs.States.{majorSize, majorOf}
 use Rattle.majors.specs.Questions.{stored, hasStored, hasNominal, magHeld, slotHeld, nominalGiven, fieldAt}
 use Rattle.majors.specs.Questions.{SampleIs, WordIs, NominalIs}
-use Rattle.state.specs.Major.{slots}
+use Rattle.major.specs.Major.{slots}
 use Rattle.majors.specs.declared.Nominal.{Nominal}
 use Rattle.majors.specs.declared.Nominal.the-variants as nominal
 use Rattle.majors.specs.declared.Sample.{Sample}

@@ -5,13 +5,12 @@ use mathlib.Core.Bool.{Bool, true, false, cond, _&&_}
 use mathlib.Core.List.{List}
 use Prim.Native.Nat.{ℕ}
 use lib.Dec.{eqb}
-use lib.IntN.{ℤ}
 use lib.ListN.{length}
 use borrow.Author.Tests.{eq-eqb, ne-eqb, eqb-true, eqb-false}
 use Rattle.tables.proofs.Conds.{cond-of, two}
 use Rattle.state.proofs.Numbers.{accepted-is, refused-is}
 use Rattle.state.specs.List.{listed}
-use Rattle.state.specs.Deciding.{Input, numberOf, decidedOf, acceptedAt, answerNumber}
+use Rattle.state.specs.Deciding.{Input, numberOf, decidedOf, acceptance, answerNumber}
 use Rattle.state.specs.Ending.{ending, unended, endedOf, endingNumber}
 use Rattle.state.specs.declared.deciding.Answer.the-variants.{Refused, Accepted}
 use Rattle.state.specs.declared.deciding.Stepped.{Stepped}
@@ -19,7 +18,8 @@ use Rattle.state.specs.declared.deciding.Taken.{Taken}
 use Rattle.state.specs.declared.ending.Ended.{Ended}
 use Rattle.state.specs.declared.ending.Ending.the-variants as end
 use Rattle.state.specs.declared.ending.Finished.{Finished}
-use Rattle.reader.specs.Steps.{Buffers, buffers, sized, input, StepIs, FinishIs}
+use Rattle.reader.specs.Buffers.{Buffers, sized}
+use Rattle.reader.specs.Steps.{input, StepIs, FinishIs}
 use Rattle.encoding.specs.States.{stateSize, isState, stateOf, stateBytes, written}
 use Rattle.encoding.specs.Reports.{closedSize, closedBytes, reportSize, reportBytes, reportWritten}
 use Rattle.c_bytes.specs.Reading.{readable, StepGiven, FinishGiven}
@@ -57,17 +57,17 @@ module _ (st : List ℕ) where
   pub finish-unread : (b : Buffers) (closed : List ℕ) → readable st closedSize closed ≡ false → FinishGiven st b closed 1 st b closed
   finish-unread b closed e = record { number = rw e; state = refl; buffers-after = rw e; closed-after = refl }
 
-  module _ (oc fc oc′ fc′ : List ℕ) (os fs os′ fs′ : List ℤ) where
-    module _ (r report : List ℕ) (x : Stepped) (is : StepIs (stateOf st) oc fc os fs r x oc′ fc′ os′ fs′) (n : ℕ)
+  module _ (b b′ : Buffers) where
+    module _ (r report : List ℕ) (x : Stepped) (is : StepIs (stateOf st) b r x b′) (n : ℕ)
         (st′ report′ : List ℕ) (h : Handed x st report n st′ report′) (ok : readable st reportSize report ≡ true) where
       abbrev i : Input
-      i = input (stateOf st) (buffers oc fc os fs) r
+      i = input (stateOf st) b r
 
       number-so : n ≡ numberOf i
       number-so = h .number ∙ is .number
 
       state-so : st′ ≡ cond (eqb n 0) (stateBytes (decidedOf i .stepped .state)) st
-      unfolding acceptedAt
+      unfolding acceptance
       state-so = go (eqb (numberOf i) 0) refl
         where
           q : st′ ≡ stateHanded (decidedOf i .stepped .answer) (decidedOf i .stepped .state) st
@@ -82,31 +82,31 @@ module _ (st : List ℕ) where
               let a : stateHanded (decidedOf i .stepped .answer) (decidedOf i .stepped .state) st ≡ st = rw (refused-is i (eqb-false (numberOf i) 0 t)) in
               rw (number-so, t) (q ∙ a)
 
-      pub step-given : StepGiven st (buffers oc fc os fs) r report n st′ (buffers oc′ fc′ os′ fs′) report′
+      pub step-given : StepGiven st b r report n st′ b′ report′
       step-given = record {
         number = number-so ∙ rw ok;
         state = state-so;
-        buffers-after = rw (ok, is .cells-open, is .cells-finished, is .samples-open, is .samples-finished);
+        buffers-after = is .left ∙ rw ok;
         report-after = h .report-written ∙ ap (λ (y : Stepped). reportWritten y report) (is .result) ∙ rw ok;
       }
 
-    module _ (closed : List ℕ) (x : Finished) (is : FinishIs (stateOf st) oc fc os fs x oc′ fc′ os′ fs′) (n : ℕ)
+    module _ (closed : List ℕ) (x : Finished) (is : FinishIs (stateOf st) b x b′) (n : ℕ)
         (st′ closed′ : List ℕ) (h : HandedClosed x st closed n st′ closed′) (ok : readable st closedSize closed ≡ true) where
       abbrev e : Ended
-      e = endedOf (stateOf st) (sized (buffers oc fc os fs))
+      e = endedOf (stateOf st) (sized b)
 
       -- what is handed over is handed over where the number is 0
       handed-so : (bytes room : List ℕ) → endHanded (x .ending) bytes room ≡ cond (eqb n 0) bytes room
       unfolding endedOf
       handed-so bytes room =
-          ap (λ (y : Finished). endHanded (y .ending) bytes room) (is .result) ∙ go (sized (buffers oc fc os fs) && listed (stateOf st)) refl
+          ap (λ (y : Finished). endHanded (y .ending) bytes room) (is .result) ∙ go (sized b && listed (stateOf st)) refl
         where
-          go : (t : Bool) → (sized (buffers oc fc os fs) && listed (stateOf st)) ≡ t
+          go : (t : Bool) → (sized b && listed (stateOf st)) ≡ t
               → endHanded (cond t (ending (stateOf st)) (unended (stateOf st)) .finished .ending) bytes room ≡ cond (eqb n 0) bytes room
           go true t = let m : n ≡ 0 = h .number ∙ is .number ∙ rw t in rw m
           go false t = let m : n ≡ 1 = h .number ∙ is .number ∙ rw t in rw m
 
-      pub finish-given : FinishGiven st (buffers oc fc os fs) closed n st′ (buffers oc′ fc′ os′ fs′) closed′
+      pub finish-given : FinishGiven st b closed n st′ b′ closed′
       finish-given = record {
         number = h .number ∙ is .number ∙ rw ok;
         state =
@@ -114,13 +114,13 @@ module _ (st : List ℕ) where
             ∙ handed-so _ st
             ∙ ap (λ (z : List ℕ). cond (eqb n 0) z st)
             (is-written stateSize _ st (state-size st closed closedSize ok) ∙ ap (λ (y : Finished). stateBytes (y .state)) (is .result));
-        buffers-after = rw (ok, is .cells-open, is .cells-finished, is .samples-open, is .samples-finished);
+        buffers-after = is .left ∙ rw ok;
         closed-after =
             h .closed-written
             ∙ handed-so _ closed
             ∙ ap (λ (z : List ℕ). cond (eqb n 0) z closed)
             (is-written closedSize _ closed (room-size st closed closedSize ok)
-            ∙ ap (λ (y : Finished). closedBytes (y .major) (y .accumulation)) (is .result));
+            ∙ ap (λ (y : Finished). closedBytes (y .closed)) (is .result));
       }
 
 -- what is handed over of each answer
@@ -144,7 +144,7 @@ module _ (x : Finished) (state closed : List ℕ) where
   hands-unended n e = record { number = rw e; state-written = rw e; closed-written = rw e }
 
   pub hands-ended : x .ending ≡ end.Done → (state′ closed′ : List ℕ)
-      → state′ ≡ written stateSize (stateBytes (x .state)) state → closed′ ≡ written closedSize (closedBytes (x .major) (x .accumulation)) closed
+      → state′ ≡ written stateSize (stateBytes (x .state)) state → closed′ ≡ written closedSize (closedBytes (x .closed)) closed
       → HandedClosed x state closed 0 state′ closed′
   unfolding endingNumber
   hands-ended e state′ closed′ p q = record { number = rw e; state-written = rw e p; closed-written = rw e q }

@@ -10,7 +10,8 @@ use Rattle.tables.proofs.Single.{one}
 use Rattle.c_answers.proofs.Single.{where-zero, one-value}
 use Rattle.state.specs.Deciding.{decidedOf}
 use Rattle.state.specs.Ending.{endedOf}
-use Rattle.reader.specs.Steps.{Buffers, sized, input}
+use Rattle.reader.specs.Buffers.{Buffers, sized}
+use Rattle.reader.specs.Steps.{input}
 use Rattle.encoding.specs.States.{stateOf, stateBytes}
 use Rattle.encoding.specs.Reports.{closedBytes}
 use Rattle.c_bytes.specs.Reading.{StepGiven, FinishGiven}
@@ -40,5 +41,5 @@ one-finish st b closed k n s t c d p q x y =
       e,
       one (x .state ∙ where-zero (stateBytes (z .state)) st k n e) (y .state),
       one (x .buffers-after) (y .buffers-after),
-      one (x .closed-after ∙ where-zero (closedBytes (z .major) (z .accumulation)) closed k n e) (y .closed-after),
+      one (x .closed-after ∙ where-zero (closedBytes (z .closed)) closed k n e) (y .closed-after),
     )

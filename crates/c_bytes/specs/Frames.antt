@@ -11,7 +11,7 @@ use lib.ListN.{length, getD}
 use Rattle.mag.specs.Field.{FieldIs}
 use Rattle.encoding.specs.States.{majorSize, majorOf}
 use Rattle.majors.specs.Questions.{stored, hasStored, hasNominal, magHeld, slotHeld, fieldAt}
-use Rattle.state.specs.Major.{slots}
+use Rattle.major.specs.Major.{slots}
 use Rattle.c_answers.specs.Answers.{ValueGiven}
 
 -- bytes of a major frame, and what is asked for has a place

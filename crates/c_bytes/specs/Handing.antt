@@ -33,4 +33,4 @@ endHanded ending.Done bytes room = bytes
 pub record HandedClosed (x : Finished) (state closed : List ℕ) (n : ℕ) (state′ closed′ : List ℕ) : Type 0 where
   pub number : n ≡ endingNumber (x .ending)
   pub state-written : state′ ≡ endHanded (x .ending) (written stateSize (stateBytes (x .state)) state) state
-  pub closed-written : closed′ ≡ endHanded (x .ending) (written closedSize (closedBytes (x .major) (x .accumulation)) closed) closed
+  pub closed-written : closed′ ≡ endHanded (x .ending) (written closedSize (closedBytes (x .closed)) closed) closed

@@ -8,7 +8,8 @@ use lib.Dec.{eqb}
 use lib.ListN.{length}
 use Rattle.state.specs.Deciding.{numberOf, decidedOf}
 use Rattle.state.specs.Ending.{endNumber, endedOf}
-use Rattle.reader.specs.Steps.{Buffers, sized, input, stepped, ended}
+use Rattle.reader.specs.Buffers.{Buffers, sized}
+use Rattle.reader.specs.Steps.{input, stepped, ended}
 use Rattle.encoding.specs.States.{isState, stateOf, stateBytes}
 use Rattle.encoding.specs.Reports.{closedSize, closedBytes, reportSize, reportWritten}
 
@@ -29,6 +30,4 @@ pub record FinishGiven (st : List ℕ) (b : Buffers) (closed : List ℕ) (n : �
   pub number : n ≡ cond (readable st closedSize closed) (endNumber (stateOf st) (sized b)) 1
   pub state : st′ ≡ cond (eqb n 0) (stateBytes (endedOf (stateOf st) (sized b) .finished .state)) st
   pub buffers-after : b′ ≡ cond (readable st closedSize closed) (ended (stateOf st) b) b
-  pub closed-after :
-      closed′
-      ≡ cond (eqb n 0) (closedBytes (endedOf (stateOf st) (sized b) .finished .major) (endedOf (stateOf st) (sized b) .finished .accumulation)) closed
+  pub closed-after : closed′ ≡ cond (eqb n 0) (closedBytes (endedOf (stateOf st) (sized b) .finished .closed)) closed

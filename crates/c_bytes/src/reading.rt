@@ -1,5 +1,5 @@
 // The reader, for C: the state and the report are lent as bytes.
-ghost use Rattle.reader.specs.Steps.{buffers};
+ghost use Rattle.reader.specs.Buffers.{buffers};
 ghost use Rattle.c_bytes.specs.Reading.{StepGiven, FinishGiven};
 ghost use Rattle.c_bytes.specs.Handing.{Handed, HandedClosed};
 use encoding::CLOSED;
@@ -67,7 +67,7 @@ fn hand_over_closed(finished: Finished, state: &mut [u8], closed: &mut [u8]) -> 
         Ending::Refused(n) => n,
         Ending::Done => {
             encoding::put_state(finished.state, state);
-            encoding::put_closed(finished.major, finished.accumulation, closed);
+            encoding::put_closed(finished.closed, closed);
             0
         }
     }

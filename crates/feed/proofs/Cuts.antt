@@ -16,14 +16,18 @@ use Rattle.feed.specs.Feeding.{wholeFrom}
 module _ (bytes : List ℕ) (at : ℕ) where
   module _ (from : ℕ × ℕ) where
     -- past the end, near it, and before
-    pub cut-past : length bytes ≤ at → CutIs bytes from at (take (length bytes - length bytes) (drop (length bytes) bytes)) (from .0, length bytes + from .1)
-    cut-past h = record {
-      content = ap (take (length bytes - length bytes)) (drop-length bytes) ∙ take-nil (length bytes - length bytes) ∙ sym (ap (take size) (drop-of-length-le bytes h));
-      block = refl;
-      offset = ap (λ (k : ℕ). k + from .1) (sym (min-eq-right h));
-    }
+    pub cut-past : length bytes ≤ at
+        → CutIs bytes from at (take (length bytes - length bytes) (drop (length bytes) bytes)) (from .0, length bytes + from .1)
+    cut-past h =
+        let n = length bytes - length bytes in
+        record {
+          content = ap (take n) (drop-length bytes) ∙ take-nil n ∙ sym (ap (take size) (drop-of-length-le bytes h));
+          block = refl;
+          offset = ap (λ (k : ℕ). k + from .1) (sym (min-eq-right h));
+        }
 
-    pub cut-short : at ≤ length bytes → length bytes - at < size → CutIs bytes from at (take (length bytes - at) (drop at bytes)) (from .0, at + from .1)
+    pub cut-short : at ≤ length bytes → length bytes - at < size
+        → CutIs bytes from at (take (length bytes - at) (drop at bytes)) (from .0, at + from .1)
     cut-short h l =
         let e : length (drop at bytes) ≡ length bytes - at = length-drop at bytes in
         record {

@@ -23,7 +23,8 @@ module _ (bytes : List ℕ) where
   unfolding isWhole
   some-left n at h = le-leb (at + size) (length bytes) (omega arith)
 
-  rests : (n : ℕ) (d : Desk) → n ≡ wholeFrom bytes (d .fed .at) → quiet (feedUpTo n bytes d .fed) ≡ true → isWhole (length bytes) (feedUpTo n bytes d .fed .at) ≡ false
+  rests : (n : ℕ) (d : Desk) → n ≡ wholeFrom bytes (d .fed .at) → quiet (feedUpTo n bytes d .fed) ≡ true
+      → isWhole (length bytes) (feedUpTo n bytes d .fed .at) ≡ false
   unfolding isWhole next
   rests zero d e q = lt-leb (d .fed .at + size) (length bytes) (omega arith)
   rests (suc n) d e q =
@@ -58,7 +59,8 @@ module _ (bytes : List ℕ) where
   within zero d h = h
   within (suc n) d h = go (quiet (d .fed)) (within n (next bytes d) (omega (arith, record-room bytes (d .fed .at))))
     where
-      go : (b : Bool) → feedUpTo n bytes (next bytes d) .fed .at ≤ length bytes → cond b (feedUpTo n bytes (next bytes d)) d .fed .at ≤ length bytes
+      go : (b : Bool) → feedUpTo n bytes (next bytes d) .fed .at ≤ length bytes
+          → cond b (feedUpTo n bytes (next bytes d)) d .fed .at ≤ length bytes
       go true r = r
       go false r = h
 
@@ -69,7 +71,9 @@ module _ (bytes : List ℕ) where
 
 -- as many places further on
 abbrev pub moved : ℕ → Desk → Desk
-moved k d = record { fed = record { from = k + d .fed .from; at = k + d .fed .at; rule = d .fed .rule; state = d .fed .state; major = d .fed .major; accumulation = d .fed .accumulation }; lent = d .lent }
+moved k d =
+    let f = d .fed in
+    record { fed = record { from = k + f .from; at = k + f .at; rule = f .rule; state = f .state; closed = f .closed }; lent = d .lent }
 
 -- begun there, with nothing told yet
 abbrev pub anew : Desk → ℕ → Desk
@@ -79,7 +83,8 @@ anew-moved : (d : Desk) (k : ℕ) → anew d k ≡ moved k (anew d 0)
 anew-moved d k = rw (add-zero k)
 
 -- what was told last doesn't matter to what is fed next
-pub feed-anew : (bytes : List ℕ) (d : Desk) → quiet (d .fed) ≡ true → isWhole (length bytes) (d .fed .at) ≡ true → feedAll bytes d ≡ feedAll bytes (anew d (d .fed .at))
+pub feed-anew : (bytes : List ℕ) (d : Desk) → quiet (d .fed) ≡ true → isWhole (length bytes) (d .fed .at) ≡ true
+    → feedAll bytes d ≡ feedAll bytes (anew d (d .fed .at))
 unfolding next isQuiet
 feed-anew bytes d q w = feed-more bytes d w q ∙ sym (feed-more bytes (anew d (d .fed .at)) w refl)
 
@@ -93,7 +98,8 @@ module _ (bytes : List ℕ) (k : ℕ) where
   up-to-moved (suc n) d = go (quiet (d .fed)) (ap (feedUpTo n bytes) (next-moved d) ∙ up-to-moved n (next (drop k bytes) d))
     where
       go : (b : Bool) → feedUpTo n bytes (next bytes (moved k d)) ≡ moved k (feedUpTo n (drop k bytes) (next (drop k bytes) d))
-          → cond b (feedUpTo n bytes (next bytes (moved k d))) (moved k d) ≡ moved k (cond b (feedUpTo n (drop k bytes) (next (drop k bytes) d)) d)
+          → cond b (feedUpTo n bytes (next bytes (moved k d))) (moved k d)
+          ≡ moved k (cond b (feedUpTo n (drop k bytes) (next (drop k bytes) d)) d)
       go true r = r
       go false r = refl
 
@@ -110,16 +116,21 @@ module _ (xs ys : List ℕ) where
   next-front d w =
       let at = d .fed .at in
       let h = whole-fits xs at w in
-      let e : recordAt (xs ++ ys) at ≡ recordAt xs at = ap (take size) (drop-append-le at xs ys (omega arith)) ∙ take-append-le size (drop at xs) ys (simp length-drop (omega arith)) in
-      rw e
+      let e : drop at (xs ++ ys) ≡ drop at xs ++ ys = drop-append-le at xs ys (omega arith) in
+      let f : take size (drop at xs ++ ys) ≡ recordAt xs at = take-append-le size (drop at xs) ys (simp length-drop (omega arith)) in
+      let g : recordAt (xs ++ ys) at ≡ recordAt xs at = ap (take size) e ∙ f in
+      rw g
 
   up-to-front : (n : ℕ) (d : Desk) → n ≤ wholeFrom xs (d .fed .at) → feedAll (xs ++ ys) d ≡ feedAll (xs ++ ys) (feedUpTo n xs d)
   unfolding isWhole next
   up-to-front zero d h = refl
   up-to-front (suc n) d h =
-      let w = some-left xs n (d .fed .at) h in
-      let v : isWhole (length (xs ++ ys)) (d .fed .at) ≡ true = le-leb (d .fed .at + size) (length (xs ++ ys)) (simp length-append (omega (arith, whole-fits xs (d .fed .at) w))) in
-      go (quiet (d .fed)) refl (λ q. feed-more (xs ++ ys) d v q ∙ ap (feedAll (xs ++ ys)) (next-front d w) ∙ up-to-front n (next xs d) (omega (arith, whole-left xs (d .fed .at) w)))
+      let at = d .fed .at in
+      let w = some-left xs n at h in
+      let l : at + size ≤ length (xs ++ ys) = simp length-append (omega (arith, whole-fits xs at w)) in
+      let v : isWhole (length (xs ++ ys)) at ≡ true = le-leb (at + size) (length (xs ++ ys)) l in
+      let r = up-to-front n (next xs d) (omega (arith, whole-left xs at w)) in
+      go (quiet (d .fed)) refl (λ q. feed-more (xs ++ ys) d v q ∙ ap (feedAll (xs ++ ys)) (next-front d w) ∙ r)
     where
       go : (b : Bool) → quiet (d .fed) ≡ b → (quiet (d .fed) ≡ true → feedAll (xs ++ ys) d ≡ feedAll (xs ++ ys) (feedUpTo n xs (next xs d)))
           → feedAll (xs ++ ys) d ≡ feedAll (xs ++ ys) (cond b (feedUpTo n xs (next xs d)) d)
@@ -145,7 +156,8 @@ module _ (xs ys : List ℕ) where
       ∙ ap (λ (b : List ℕ). moved p (feedAll b (anew e 0))) (drop-append-le p xs ys (feed-within xs d h))
 
 -- what came to the front are the bytes that stood between the places
-pub rest-in-front : (bytes : List ℕ) (from to : ℕ) (b : List ℕ) (n : ℕ) → from ≤ to → to ≤ length bytes → RestIs bytes from to b n → take n b ≡ take (to - from) (drop from bytes)
+pub rest-in-front : (bytes : List ℕ) (from to : ℕ) (b : List ℕ) (n : ℕ) → from ≤ to → to ≤ length bytes → RestIs bytes from to b n
+    → take n b ≡ take (to - from) (drop from bytes)
 unfolding patch
 rest-in-front bytes from to b n h l is =
     let s = take (to - from) (drop from bytes) in

@@ -54,7 +54,8 @@ module _ (bytes : List ℕ) (from to : ℕ) where
   pub no-start : to ≤ length bytes → to < from → RestIs bytes from to bytes 0
   no-start h l = none-came (rw (le-leb to (length bytes) h, lt-leb from to l))
 
-  pub all-came : (i : ℕ) (b : List ℕ) → to ≤ length bytes → from ≤ to → i ≡ to - from → b ≡ fronted bytes from (to - from) i → RestIs bytes from to b (to - from)
+  pub all-came : (i : ℕ) (b : List ℕ) → to ≤ length bytes → from ≤ to → i ≡ to - from → b ≡ fronted bytes from (to - from) i
+      → RestIs bytes from to b (to - from)
   all-came i b h l e q =
       let s = take (to - from) (drop from bytes) in
       let o = in-order h l in

@@ -1,12 +1,12 @@
 // Whole records fed to the reader.
 ghost use mathlib.Core.Path.{_≡_};
+ghost use Rattle.reader.specs.Buffers.{buffers};
 ghost use Rattle.state.specs.Deciding.{answerNumber};
 ghost use Rattle.feed.specs.Feeding.{begun, isQuiet, OneIs, FeedIs};
 use crate::cutting::cut;
 use crate::cutting::is_whole;
-use state::AccumulationReport;
 use state::Answer;
-use state::MajorReport;
+use state::Closed;
 use state::State;
 
 // Where the last record taken began and where the next begins, the number that refused the last or 0, the state after it, and what
@@ -16,8 +16,7 @@ pub struct Fed {
     pub at: usize,
     pub rule: u8,
     pub state: State,
-    pub major: MajorReport,
-    pub accumulation: AccumulationReport,
+    pub closed: Closed,
 }
 
 // None taken yet.
@@ -29,15 +28,7 @@ fn begin(state: State, at: usize) -> Fed
         at: at,
         rule: 0,
         state: state,
-        major: MajorReport {
-            closed: false,
-            frame: state::no_major(),
-        },
-        accumulation: AccumulationReport {
-            closed: false,
-            first: 0,
-            held: 0,
-        },
+        closed: state::nothing_closed(),
     }
 }
 
@@ -73,9 +64,13 @@ pub fn feed_one(
     bytes: &[u8],
     at: usize,
 ) -> Fed
-    ensures { λ x. ⌜ OneIs state (now («open_cells» .entry)) (now («finished_cells» .entry)) (now («open_samples» .entry)) (now («finished_samples» .entry)) (now (bytes .entry)) at x (now («open_cells» .exit)) (now («finished_cells» .exit)) (now («open_samples» .exit)) (now («finished_samples» .exit)) ⌝ }
+    ensures { λ x. ⌜ OneIs state
+        (buffers (now («open_cells» .entry)) (now («finished_cells» .entry)) (now («open_samples» .entry)) (now («finished_samples» .entry)))
+        (now (bytes .entry)) at x
+        (buffers (now («open_cells» .exit)) (now («finished_cells» .exit)) (now («open_samples» .exit)) (now («finished_samples» .exit))) ⌝ }
 {
     let r = cut(bytes, at);
+    let end = at + r.len();
     let stepped = reader::step(
         state,
         open_cells,
@@ -86,15 +81,13 @@ pub fn feed_one(
     );
     let answer = stepped.answer;
     let next = stepped.state;
-    let major = stepped.major;
-    let accumulation = stepped.accumulation;
+    let closed = stepped.closed;
     Fed {
         from: at,
-        at: at + r.len(),
+        at: end,
         rule: rule_of(answer),
         state: next,
-        major: major,
-        accumulation: accumulation,
+        closed: closed,
     }
 }
 
@@ -108,11 +101,18 @@ pub fn feed(
     bytes: &[u8],
     at: usize,
 ) -> Fed
-    ensures { λ x. ⌜ FeedIs state (now («open_cells» .entry)) (now («finished_cells» .entry)) (now («open_samples» .entry)) (now («finished_samples» .entry)) (now (bytes .entry)) at x (now («open_cells» .exit)) (now («finished_cells» .exit)) (now («open_samples» .exit)) (now («finished_samples» .exit)) ⌝ }
+    ensures { λ x. ⌜ FeedIs state
+        (buffers (now («open_cells» .entry)) (now («finished_cells» .entry)) (now («open_samples» .entry)) (now («finished_samples» .entry)))
+        (now (bytes .entry)) at x
+        (buffers (now («open_cells» .exit)) (now («finished_cells» .exit)) (now («open_samples» .exit)) (now («finished_samples» .exit))) ⌝ }
 {
     let mut fed = begin(state, at);
     while is_whole(bytes.len(), fed.at)
-        && is_quiet(fed.rule, fed.major.closed, fed.accumulation.closed)
+        && is_quiet(
+            fed.rule,
+            fed.closed.major.closed,
+            fed.closed.accumulation.closed,
+        )
     {
         fed = feed_one(
             fed.state,

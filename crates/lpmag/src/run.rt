@@ -65,7 +65,7 @@ pub(crate) fn tell(run: Run, fed: Fed, page: &mut [u8]) -> Run {
     if !run.all_written {
         return run;
     }
-    run.made = listing::put_closed(fed.major, fed.accumulation, page, run.made);
+    run.made = listing::put_closed(fed.closed, page, run.made);
     if fed.rule == 0 {
         return run;
     }
@@ -114,7 +114,7 @@ pub(crate) fn tell_rest(run: Run, fed: Fed, page: &mut [u8]) -> Run {
 // What finish closes, and the last line. Answers whether all could be read and written.
 pub(crate) fn end(run: Run, finished: Finished, page: &mut [u8]) -> bool {
     let mut run = make_room(run, page);
-    run.made = listing::put_closed(finished.major, finished.accumulation, page, run.made);
+    run.made = listing::put_closed(finished.closed, page, run.made);
     run.made = listing::put_refused(run.refused, page, run.made);
     let ended = write_page(run, page);
     ended.all_written && ended.source.all_read

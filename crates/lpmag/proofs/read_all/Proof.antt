@@ -8,12 +8,16 @@ use Rattle.lpmag.proofs.read_all.Statement.{statement}
 use Rattle.lpmag.proofs.read_all.Tie as tie
 
 abbrev Inv-loop : tie.InvT-loop
-Inv-loop bytes₀ page₀ open-cells₀ finished-cells₀ open-samples₀ finished-samples₀ run₀ state₀ turns₀ bytes page open-cells finished-cells open-samples finished-samples run state turns =
-    (length bytes ≡ length bytes₀) × (length page ≡ length page₀) × (length open-cells ≡ length open-cells₀) × (length finished-cells ≡ length finished-cells₀) × (length open-samples ≡ length open-samples₀) × (length finished-samples ≡ length finished-samples₀)
+Inv-loop bytes₀ page₀ oc₀ fc₀ os₀ fs₀ run₀ state₀ turns₀ bytes page oc fc os fs run state turns =
+    (length bytes ≡ length bytes₀)
+    × (length page ≡ length page₀)
+    × (length oc ≡ length oc₀)
+    × (length fc ≡ length fc₀)
+    × (length os ≡ length os₀)
+    × (length fs ≡ length fs₀)
 
 abbrev μ-loop : tie.MeasureT-loop
-μ-loop bytes₀ page₀ open-cells₀ finished-cells₀ open-samples₀ finished-samples₀ run₀ state₀ turns₀ bytes page open-cells finished-cells open-samples finished-samples run state turns =
-    turns
+μ-loop bytes₀ page₀ oc₀ fc₀ os₀ fs₀ run₀ state₀ turns₀ bytes page oc fc os fs run state turns = turns
 
 loop-holds : tie.Need-loop-holds Inv-loop μ-loop
 loop-holds c = search needs
@@ -37,15 +41,35 @@ tell-requires : tie.Need-tell-requires Inv-loop μ-loop
 tell-requires c κs = search needs
 
 sub-turns : tie.Need-sub-turns Inv-loop μ-loop
-sub-turns c = omega (arith, c .before .before .before .before .before .before .before .before .before .before .before .before .before .before .before .before .before .before .before .before .before .before .before .before .loop-test .taken)
+sub-turns c =
+    let f = c .before .before .before .before .before .before .before .before in
+    let w = f .before .before .before .before .before .before .before .before in
+    let t = w .before .before .before .before .before .before .before .before in
+    omega (arith, t .loop-test .taken)
 
 loop-less : tie.Need-loop-less Inv-loop μ-loop
-loop-less c = omega (arith, c .before .before .before .before .before .before .before .before .before .before .before .before .before .before .before .before .before .before .before .before .before .before .before .before .loop-test .taken)
+loop-less c =
+    let f = c .before .before .before .before .before .before .before .before in
+    let w = f .before .before .before .before .before .before .before .before in
+    let t = w .before .before .before .before .before .before .before .before in
+    omega (arith, t .loop-test .taken)
 
+-- each buffer keeps its length in this turn, and kept it in those before
 loop-again : tie.Need-loop-again Inv-loop μ-loop
 loop-again c =
-    let i = c .before .before .before .before .before .before .before .before .before .before .before .before .before .before .before .before .before .before .before .before .before .before .before .before .before .loop .inv in
-    ((c .before .before .before .before .before .before .before .before .before .before .before .before .before .before .before .before .before .before .before .before .bytes .given ∙ i .0), (c .before .page .given ∙ i .1), (c .before .before .before .before .before .before .before .before .before .before .open-cells .given ∙ i .2), (c .before .before .before .before .before .before .before .before .finished-cells .given ∙ i .3), (c .before .before .before .before .before .before .open-samples .given ∙ i .4), (c .before .before .before .before .before .finished-samples .given ∙ i .5))
+    let t = c .before .before .before .before .before in
+    let f = t .before .before .before in
+    let o = f .before .before in
+    let r = o .before .before .before .before .before in
+    let b = r .before .before .before .before .before in
+    let i = b .before .before .before .before .before .loop .inv in (
+      b .bytes .given ∙ i .0,
+      c .before .page .given ∙ i .1,
+      o .open-cells .given ∙ i .2,
+      f .finished-cells .given ∙ i .3,
+      t .before .open-samples .given ∙ i .4,
+      t .finished-samples .given ∙ i .5,
+    )
 
 same-length : tie.Need-same-length Inv-loop μ-loop
 same-length c = search needs

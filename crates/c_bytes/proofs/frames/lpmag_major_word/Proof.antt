@@ -5,7 +5,7 @@ use lib.ListN.{getD}
 use denote.Ref.{now}
 use Rattle.encoding.specs.States.{majorOf}
 use Rattle.majors.specs.Questions.{slotHeld}
-use Rattle.state.specs.Major.{slots}
+use Rattle.major.specs.Major.{slots}
 use Rattle.c_bytes.proofs.Asked.{word-told, no-frame}
 use borrow.Author.Needs.{needs}
 use Rattle.c_bytes.proofs.frames.lpmag_major_word.Statement.{statement}

@@ -3,6 +3,7 @@
 use mathlib.Core.Path.{_≡_, refl, sym, _∙_}
 use lib.ListN.{length}
 use denote.Ref.{now}
+use Rattle.reader.specs.Buffers.{buffers}
 use Rattle.feed.specs.Feeding.{feedAll, desk, wholeFrom}
 use Rattle.feed.proofs.Turns.{turn, fewer, ended-loud, ended-none}
 use borrow.Author.Needs.{needs}
@@ -10,13 +11,12 @@ use Rattle.feed.proofs.feeding.feed.Statement.{statement}
 use Rattle.feed.proofs.feeding.feed.Tie as tie
 
 abbrev Inv-loop : tie.InvT-loop
-Inv-loop open-cells₀ finished-cells₀ open-samples₀ finished-samples₀ bytes at fed₀ open-cells finished-cells open-samples finished-samples fed =
-    (feedAll bytes (desk fed₀ open-cells₀ finished-cells₀ open-samples₀ finished-samples₀) ≡ feedAll bytes (desk fed open-cells finished-cells open-samples finished-samples))
-    × (length open-cells ≡ length open-cells₀) × (length finished-cells ≡ length finished-cells₀) × (length open-samples ≡ length open-samples₀) × (length finished-samples ≡ length finished-samples₀)
+Inv-loop oc₀ fc₀ os₀ fs₀ bytes at f₀ oc fc os fs f =
+    (feedAll bytes (desk f₀ (buffers oc₀ fc₀ os₀ fs₀)) ≡ feedAll bytes (desk f (buffers oc fc os fs)))
+    × (length oc ≡ length oc₀) × (length fc ≡ length fc₀) × (length os ≡ length os₀) × (length fs ≡ length fs₀)
 
 abbrev μ-loop : tie.MeasureT-loop
-μ-loop open-cells₀ finished-cells₀ open-samples₀ finished-samples₀ bytes at fed₀ open-cells finished-cells open-samples finished-samples fed =
-    wholeFrom bytes (fed .at)
+μ-loop oc₀ fc₀ os₀ fs₀ bytes at f₀ oc fc os fs f = wholeFrom bytes (f .at)
 
 begin-requires : tie.Need-begin-requires Inv-loop μ-loop
 begin-requires c κs = search needs
@@ -35,18 +35,25 @@ feed-one-requires c κs = search needs
 
 loop-less : tie.Need-loop-less Inv-loop μ-loop
 loop-less c =
-    let w = c .before .before .before .before .before .before .before .before .before .before .before .before .before in
-    let l = w .before .before .loop in
-    let a = w .before .before .before .before .before .before .before .args in
-    fewer (now (a .bytes)) (l .fed) (l .open-cells) (l .finished-cells) (l .open-samples) (l .finished-samples) (sym (w .before .is-whole .ensures) ∙ w .if1 .taken) (c .before .before .before .before .before .before .feed-one .ensures)
+    let o = c .before .before .before .before .before .before in
+    let w = o .before .before .before .before .before .before .before in
+    let k = w .before .before in
+    let l = k .loop in
+    let a = k .before .before .before .before .before .args in
+    fewer (now (a .bytes)) (l .fed) (buffers (l .open-cells) (l .finished-cells) (l .open-samples) (l .finished-samples))
+    (sym (w .before .is-whole .ensures) ∙ w .if1 .taken) (o .feed-one .ensures)
 
 loop-again : tie.Need-loop-again Inv-loop μ-loop
 loop-again c =
-    let q = c .before .before .before .before .before .before .before .before .before .before .before in
+    let o = c .before .before .before .before .before .before in
+    let q = o .before .before .before .before .before in
     let w = q .before .before in
-    let l = w .before .before .loop in
-    let a = w .before .before .before .before .before .before .before .args in (
-      l .inv .0 ∙ turn (now (a .bytes)) (l .fed) (l .open-cells) (l .finished-cells) (l .open-samples) (l .finished-samples) (sym (w .before .is-whole .ensures) ∙ w .if1 .taken) (c .before .before .before .before .before .before .feed-one .ensures) (sym (q .before .is-quiet .ensures) ∙ q .if2 .taken),
+    let k = w .before .before in
+    let l = k .loop in
+    let a = k .before .before .before .before .before .args in (
+      l .inv .0
+          ∙ turn (now (a .bytes)) (l .fed) (buffers (l .open-cells) (l .finished-cells) (l .open-samples) (l .finished-samples))
+          (sym (w .before .is-whole .ensures) ∙ w .if1 .taken) (o .feed-one .ensures) (sym (q .before .is-quiet .ensures) ∙ q .if2 .taken),
       search needs,
       search needs,
       search needs,
@@ -66,7 +73,10 @@ same-length-4 : tie.Need-same-length-4 Inv-loop μ-loop
 same-length-4 c = search needs
 
 returns : tie.Need-returns Inv-loop μ-loop
-returns c = let l = c .before .before .before .before in ended-loud (now (l .before .before .before .before .before .args .bytes)) _ (rw (l .before .begin .ensures) at (l .loop .inv .0)) (sym (c .before .is-quiet .ensures) ∙ c .if2 .left)
+returns c =
+    let l = c .before .before .before .before in
+    let a = l .before .before .before .before .before .args in
+    ended-loud (now (a .bytes)) _ (rw (l .before .begin .ensures) at (l .loop .inv .0)) (sym (c .before .is-quiet .ensures) ∙ c .if2 .left)
 
 same-length-5 : tie.Need-same-length-5 Inv-loop μ-loop
 same-length-5 c = search needs
@@ -81,7 +91,10 @@ same-length-8 : tie.Need-same-length-8 Inv-loop μ-loop
 same-length-8 c = search needs
 
 returns-2 : tie.Need-returns-2 Inv-loop μ-loop
-returns-2 c = let l = c .before .before in ended-none (now (l .before .before .before .before .before .args .bytes)) _ (rw (l .before .begin .ensures) at (l .loop .inv .0)) (sym (c .before .is-whole .ensures) ∙ c .if1 .left)
+returns-2 c =
+    let l = c .before .before in
+    let a = l .before .before .before .before .before .args in
+    ended-none (now (a .bytes)) _ (rw (l .before .begin .ensures) at (l .loop .inv .0)) (sym (c .before .is-whole .ensures) ∙ c .if1 .left)
 
 pub feed-spec : {M : Type 1} → statement M
 feed-spec =

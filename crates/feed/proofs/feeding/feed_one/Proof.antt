@@ -13,14 +13,13 @@ use Rattle.feed.proofs.feeding.feed_one.Tie as tie
 cut-requires : tie.Need-cut-requires
 cut-requires c κs = search needs
 
+add-end : tie.Need-add-end
+add-end c =
+    let s = c .before .before .before .before in
+    omega (arith, ap length (c .cut .ensures .content), record-room (now (s .args .bytes)) (s .args .at), s)
+
 step-requires : tie.Need-step-requires
 step-requires c κs = search needs
-
-add-t23 : tie.Need-add-t23
-add-t23 c =
-    let k = c .before .before .before .before .before .before .before .before .before .before .before .before .before .before in
-    let s = k .before .before .before .before in
-    omega (arith, ap length (k .cut .ensures .content), record-room (now (s .args .bytes)) (s .args .at), s)
 
 rule-of-requires : tie.Need-rule-of-requires
 rule-of-requires c κs = search needs
@@ -39,17 +38,18 @@ same-length-4 c = search needs
 
 returns : tie.Need-returns
 returns c =
-    let k = c .before .before .before .before .before .before .before .before .before .before .before .before .before .before .before in
+    let s = c .before .before .before .before .before .before .before .before .before in
+    let k = s .before .before .before .before .before in
     let a = k .before .before .before .before .args in
-    one-is (now (a .bytes)) (a .at) (k .cut .ensures .content) (c .before .before .before .before .before .before .before .before .before .before .step .ensures) (c .rule-of .ensures)
+    one-is (now (a .bytes)) (a .at) (k .cut .ensures .content) (s .step .ensures) (c .rule-of .ensures)
 
 pub feed-one-spec : {M : Type 1} → statement M
 feed-one-spec =
     tie.close
     (tie.spec
     cut-requires
+    add-end
     step-requires
-    add-t23
     rule-of-requires
     same-length
     same-length-2
