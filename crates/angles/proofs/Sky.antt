@@ -17,7 +17,9 @@ use Rattle.angles.specs.declared.Angle.the-variants.{At, NoSuchBin}
 
 -- the code's table: first angle and width
 unfoldable pub table : List Anode
-table = (0, 4) ∷ (2, 2) ∷ (6, 1) ∷ (14, 1) ∷ (22, 1) ∷ (30, 1) ∷ (38, 2) ∷ (42, 4) ∷ (44, 4) ∷ (46, 2) ∷ (50, 1) ∷ (58, 1) ∷ (66, 1) ∷ (74, 1) ∷ (82, 2) ∷ (86, 4) ∷ []
+table =
+    (0, 4) ∷ (2, 2) ∷ (6, 1) ∷ (14, 1) ∷ (22, 1) ∷ (30, 1) ∷ (38, 2) ∷ (42, 4)
+    ∷ (44, 4) ∷ (46, 2) ∷ (50, 1) ∷ (58, 1) ∷ (66, 1) ∷ (74, 1) ∷ (82, 2) ∷ (86, 4) ∷ []
 
 abbrev pub rowOf : ℕ → Anode
 rowOf a = getD table a (0, 0)
@@ -26,9 +28,12 @@ rowOf a = getD table a (0, 0)
 phase : ℕ → ℕ → Bool
 phase a p = both (eqb (rowOf a .0 + p / rowOf a .1) (angleAt a p)) (ltb (angleAt a p) 88)
 
--- an anode: no width is 0, all eight phases are right, and its line ends with the angle printed
+-- an anode: no width is 0, its line ends with the angle printed, and all eight phases are right
+abbrev line : ℕ → Bool
+line a = both (leb 1 (rowOf a .1)) (eqb (angleAt (lineOf a .lastAnode) 7) (lineOf a .lastAngle))
+
 anode : ℕ → Bool
-anode a = both (both (leb 1 (rowOf a .1)) (eqb (angleAt (lineOf a .lastAnode) 7) (lineOf a .lastAngle))) (upto (phase a) 8)
+anode a = both (line a) (upto (phase a) 8)
 
 -- the last of n places, eight an anode, whose angle is b
 abbrev lastOf : ℕ → ℕ → ℕ
@@ -47,20 +52,16 @@ at-anode a h = upto-at anode 16 (both-left (upto anode 16) (upto met 88) all) a 
 
 width-right : (a : ℕ) → a < 16 → 1 ≤ rowOf a .1
 unfolding anode
-width-right a h =
-    leb→le _ _ (both-left (leb 1 (rowOf a .1)) _ (both-left (both (leb 1 (rowOf a .1)) (eqb (angleAt (lineOf a .lastAnode) 7) (lineOf a .lastAngle))) _ (at-anode a h)))
+width-right a h = leb→le _ _ (both-left (leb 1 (rowOf a .1)) _ (both-left (line a) _ (at-anode a h)))
 
 -- each line ends with the angle printed
 pub line-ends : (a : ℕ) → a < 16 → angleAt (lineOf a .lastAnode) 7 ≡ lineOf a .lastAngle
 unfolding anode
-line-ends a h =
-    eqb→eq _ _
-    (both-right (leb 1 (rowOf a .1)) _ (both-left (both (leb 1 (rowOf a .1)) (eqb (angleAt (lineOf a .lastAnode) 7) (lineOf a .lastAngle))) _ (at-anode a h)))
+line-ends a h = eqb→eq _ _ (both-right (leb 1 (rowOf a .1)) _ (both-left (line a) _ (at-anode a h)))
 
 at-phase : (a p : ℕ) → a < 16 → p < 8 → T (phase a p)
 unfolding anode
-at-phase a p h k =
-    upto-at (phase a) 8 (both-right (both (leb 1 (rowOf a .1)) (eqb (angleAt (lineOf a .lastAnode) 7) (lineOf a .lastAngle))) (upto (phase a) 8) (at-anode a h)) p k
+at-phase a p h k = upto-at (phase a) 8 (both-right (line a) (upto (phase a) 8) (at-anode a h)) p k
 
 row-right : (a p : ℕ) → a < 16 → p < 8 → rowOf a .0 + p / rowOf a .1 ≡ angleAt a p
 unfolding phase

@@ -23,7 +23,8 @@ module _ {ℓ} {A : Type ℓ} where
       getD-build f n k z j ∙ sym (getD-take n (drop at s) k z j ∙ getD-drop at s k z))
 
   -- a turn of putting, and all put
-  pub put-more : (d : List A) (at : ℕ) (s : List A) (k : ℕ) (z : A) → at + k < length d → k < length s → set (paste d at s k) (at + k) (getD s k z) ≡ paste d at s (k + 1)
+  pub put-more : (d : List A) (at : ℕ) (s : List A) (k : ℕ) (z : A) → at + k < length d → k < length s
+      → set (paste d at s k) (at + k) (getD s k z) ≡ paste d at s (k + 1)
   put-more d at s k z h l = rw (add-one k) (paste-suc d at s k z h l)
 
   pub put-all : (d : List A) (at : ℕ) (s : List A) (n : ℕ) → n ≡ length s → paste d at s n ≡ patch d at s
@@ -31,12 +32,18 @@ module _ {ℓ} {A : Type ℓ} where
   put-all d at s n e = rw (e, take-length s) (append-assoc (take at d) s (drop (at + length s) d))
 
   -- a block more is copied: the first i are, the rest is as found
-  pub block-more : (s d b c : List A) (i n : ℕ) → i + n ≤ length s → b ≡ take n (drop i s) → c ≡ take i s ++ drop i d → patch c i b ≡ take (i + n) s ++ drop (i + n) d
+  pub block-more : (s d b c : List A) (i n : ℕ) → i + n ≤ length s → b ≡ take n (drop i s) → c ≡ take i s ++ drop i d
+      → patch c i b ≡ take (i + n) s ++ drop (i + n) d
   unfolding patch
   block-more s d b c i n h q e =
       let l : length (take i s) ≡ i = length-take-le i s (omega arith) in
       let m : length b ≡ n = ap length q ∙ length-take-le n (drop i s) (simp length-drop (omega arith)) in
       let f : take i c ≡ take i s = ap (take i) e ∙ take-at (take i s) (drop i d) i l in
-      let g : drop (i + length b) c ≡ drop (i + n) d =
-      sym (drop-drop (length b) i c) ∙ ap (λ (x : List A). drop (length b) (drop i x)) e ∙ ap (drop (length b)) (drop-at (take i s) (drop i d) i l) ∙ drop-drop (length b) i d ∙ ap (λ (x : ℕ). drop (i + x) d) m in
+      let j = length b in
+      let g : drop (i + j) c ≡ drop (i + n) d =
+      sym (drop-drop j i c)
+      ∙ ap (λ (x : List A). drop j (drop i x)) e
+      ∙ ap (drop j) (drop-at (take i s) (drop i d) i l)
+      ∙ drop-drop j i d
+      ∙ ap (λ (x : ℕ). drop (i + x) d) m in
       rw (f, g, q, take-add i n s) (sym (append-assoc (take i s) (take n (drop i s)) (drop (i + n) d)))

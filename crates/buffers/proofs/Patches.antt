@@ -89,10 +89,16 @@ module _ {ℓ} {A : Type ℓ} where
       let b = drop a d in
       let m = at + length s in
       let l : length (take n b) ≡ n = length-take-le n b (simp length-drop (omega arith)) in
-      let c : ys ≡ take at b ++ (s ++ drop m (take n b)) = q ∙ laid-in s (take n b) at (omega (arith, l)) ∙ ap (λ (x : List A). x ++ (s ++ drop m (take n b))) (take-take at n b (omega arith)) in
-      let e : drop m (take n b) ++ drop n b ≡ drop m b = sym (drop-append-le m (take n b) (drop n b) (omega (arith, l))) ∙ ap (drop m) (take-append-drop n b) in
-      ap (λ (x : List A). take a d ++ (x ++ drop n b)) c
-      ∙ ap (λ (x : List A). take a d ++ x) (append-assoc (take at b) (s ++ drop m (take n b)) (drop n b) ∙ ap (λ (x : List A). take at b ++ x) (append-assoc s (drop m (take n b)) (drop n b) ∙ ap (λ (x : List A). s ++ x) e))
+      let t = drop n b in
+      let y = drop m (take n b) in
+      let c : ys ≡ take at b ++ (s ++ y) =
+      q ∙ laid-in s (take n b) at (omega (arith, l)) ∙ ap (λ (x : List A). x ++ (s ++ y)) (take-take at n b (omega arith)) in
+      let e : y ++ t ≡ drop m b = sym (drop-append-le m (take n b) t (omega (arith, l))) ∙ ap (drop m) (take-append-drop n b) in
+      let f : (take at b ++ (s ++ y)) ++ t ≡ take at b ++ (s ++ drop m b) =
+      append-assoc (take at b) (s ++ y) t
+      ∙ ap (λ (x : List A). take at b ++ x) (append-assoc s y t ∙ ap (λ (x : List A). s ++ x) e) in
+      ap (λ (x : List A). take a d ++ (x ++ t)) c
+      ∙ ap (λ (x : List A). take a d ++ x) f
       ∙ sym (append-assoc (take a d) (take at b) (s ++ drop m b))
       ∙ ap (λ (x : List A). x ++ (s ++ drop m b)) (sym (take-add a at d))
       ∙ ap (λ (x : List A). take (a + at) d ++ (s ++ x)) (drop-drop m a d ∙ ap (λ (x : ℕ). drop x d) (sym (add-assoc a at (length s))))

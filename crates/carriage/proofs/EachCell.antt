@@ -10,7 +10,8 @@ use lib.ListN.{length}
 use borrow.Author.Tests.{eq-eqb, ne-eqb, lt-ltb, le-ltb, ltb-true, ltb-false}
 use Rattle.tables.specs.Upto.{both, upto}
 use Rattle.tables.proofs.Upto.{both-left, both-right, upto-at}
-use Rattle.carriage.specs.Carriage.{samplesIn, types, scienceSize, cells, threeD, rows, total, someHas, byteIn, place, carrier, byteOf, Once, rowOf, runsOf, carries, none}
+use Rattle.carriage.specs.Carriage.{samplesIn, types, scienceSize, cells, threeD, rows, total, someHas, byteIn}
+use Rattle.carriage.specs.Carriage.{place, carrier, byteOf, Once, rowOf, runsOf, carries, none}
 use Rattle.carriage.specs.Steps.{restSize, restCell}
 use Rattle.carriage.proofs.Placed.{place-had, had-place, first-is, first-none}
 use Rattle.carriage.proofs.Finding.{sampleIn, inHalf, restType, typeOf, in-header, in-samples, in-three}
@@ -27,9 +28,13 @@ there t k = both (ltb (place t k) cells) (both (eqb (typeOf (place t k)) t) (eqb
 back : ℕ → Bool
 back p = both (ltb (typeOf p) types) (both (ltb (byteFor (typeOf p) p) scienceSize) (eqb (place (typeOf p) (byteFor (typeOf p) p)) p))
 
+-- byte k of type t is there, and the cell 83 t + k is back
+abbrev rightByte : ℕ → ℕ → Bool
+rightByte t k = both (there t k) (back (t * scienceSize + k))
+
 -- a row: 83 bytes, all there, and the 83 cells from 83 t on are all back
 right : ℕ → Bool
-right t = both (eqb (total (runsOf (rowOf t))) scienceSize) (upto (λ k. both (there t k) (back (t * scienceSize + k))) scienceSize)
+right t = both (eqb (total (runsOf (rowOf t))) scienceSize) (upto (rightByte t) scienceSize)
 
 all-right : (t : ℕ) → t < types → T (right t)
 unfolding both right there back place typeOf restType samplesIn rows
@@ -40,9 +45,9 @@ pub total-83 : (t : ℕ) → t < types → total (runsOf (rowOf t)) ≡ scienceS
 unfolding right
 total-83 t h = eqb→eq _ _ (both-left (eqb (total (runsOf (rowOf t))) scienceSize) _ (all-right t h))
 
-at : (t k : ℕ) → t < types → k < scienceSize → T (both (there t k) (back (t * scienceSize + k)))
+at : (t k : ℕ) → t < types → k < scienceSize → T (rightByte t k)
 unfolding right
-at t k h l = upto-at (λ k. both (there t k) (back (t * scienceSize + k))) scienceSize (both-right (eqb (total (runsOf (rowOf t))) scienceSize) _ (all-right t h)) k l
+at t k h l = upto-at (rightByte t) scienceSize (both-right (eqb (total (runsOf (rowOf t))) scienceSize) _ (all-right t h)) k l
 
 record There (t k : ℕ) : Type 0 where
   cell : place t k < cells
@@ -68,8 +73,10 @@ record Back (p : ℕ) : Type 0 where
 is-back : (p : ℕ) → p < cells → Back p
 unfolding back
 is-back p h =
-    let e : p / 83 * 83 + p % 83 ≡ p = omega arith in
-    let a : T (back p) = subst (λ (q : ℕ). T (back q)) e (both-right (there (p / 83) (p % 83)) (back (p / 83 * 83 + p % 83)) (at (p / 83) (p % 83) (omega arith) (omega arith))) in
+    let t = p / 83 in
+    let k = p % 83 in
+    let e : t * 83 + k ≡ p = omega arith in
+    let a : T (back p) = subst (λ (q : ℕ). T (back q)) e (both-right (there t k) (back (t * 83 + k)) (at t k (omega arith) (omega arith))) in
     let b = both-right (ltb (typeOf p) types) _ a in
     record {
       type = ltb→lt _ _ (both-left (ltb (typeOf p) types) _ a);
@@ -107,8 +114,10 @@ unfolding carrier place
 carrier-is p h =
     let b = is-back p h in
     let n = total-83 (typeOf p) (b .type) in
-    let e : someHas (runsOf (rowOf (typeOf p))) p ≡ true = subst (λ (q : ℕ). someHas (runsOf (rowOf (typeOf p))) q ≡ true) (b .is) (place-had (runsOf (rowOf (typeOf p))) (byteFor (typeOf p) p) (omega (arith, b .byte))) in
-    first-is (carries types [] none none) rows p (typeOf p) (omega (arith, b .type, length-rows)) e (λ u l. not-had u p (omega (arith, b .type)) (λ k. omega (arith, k .type)))
+    let rs = runsOf (rowOf (typeOf p)) in
+    let e : someHas rs p ≡ true = subst (λ (q : ℕ). someHas rs q ≡ true) (b .is) (place-had rs (byteFor (typeOf p) p) (omega (arith, b .byte))) in
+    first-is (carries types [] none none) rows p (typeOf p) (omega (arith, b .type, length-rows)) e
+    (λ u l. not-had u p (omega (arith, b .type)) (λ k. omega (arith, k .type)))
 
 -- past the cells there is none
 pub carrier-none : (p : ℕ) → cells ≤ p → carrier p ≡ types

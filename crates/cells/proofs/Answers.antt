@@ -26,7 +26,8 @@ module _ (code : ℕ) (sc c : List ℕ) where
   pub no-cells : frameType code < types → length sc ≡ scienceSize → (length c ≡ cellsSize → ⊥) → FrameLaid code sc c placed.NoSuchPlace c
   no-cells h k l = not-laid (rw (lt-ltb (frameType code) types h, eq-eqb (length sc) scienceSize k, ne-eqb (length c) cellsSize l))
 
-  pub is-laid : frameType code < types → length sc ≡ scienceSize → length c ≡ cellsSize → (c′ : List ℕ) → c′ ≡ laidFrame code sc c → FrameLaid code sc c placed.Laid c′
+  pub is-laid : frameType code < types → length sc ≡ scienceSize → length c ≡ cellsSize → (c′ : List ℕ) → c′ ≡ laidFrame code sc c
+      → FrameLaid code sc c placed.Laid c′
   unfolding placedSaid
   is-laid h k l c′ e =
       let t : layable code sc c ≡ true = rw (lt-ltb (frameType code) types h, eq-eqb (length sc) scienceSize k, eq-eqb (length c) cellsSize l) in

@@ -40,8 +40,13 @@ module _ (m : List ℕ) (s : List ℤ) where
   room-off h k = none-laid (rw (eq-eqb (length m) magSize h, ne-eqb (length s) samplesSize k))
 
   -- the bytes after the first are lent as a part
-  pub all-laid : length m ≡ magSize → length s ≡ samplesSize → (u : Unpacked) → RangeIs (magSized m) m u → (s′ : List ℤ) → s′ ≡ build (sampleAt (take (length m - 1) (drop 1 m))) samplesSize → Laid m s u s′
+  pub all-laid : length m ≡ magSize → length s ≡ samplesSize → (u : Unpacked) → RangeIs (magSized m) m u
+      → (s′ : List ℤ) → s′ ≡ build (sampleAt (take (length m - 1) (drop 1 m))) samplesSize → Laid m s u s′
   all-laid h k u a s′ e =
       let t : bothSized m s ≡ true = rw (eq-eqb (length m) magSize h, eq-eqb (length s) samplesSize k) in
-      let p : take (length m - 1) (drop 1 m) ≡ drop 1 m = take-all (length m - 1) (drop 1 m) (simp length-drop (omega arith)) in
-      record { answer = subst (λ (b : Bool). RangeIs b m u) (eq-eqb (length m) magSize h ∙ sym t) a; room = rw t (rw p at e ∙ build-same (sampleAt (drop 1 m)) (sample m) samplesSize (in-bytes m h)) }
+      let b = drop 1 m in
+      let p : take (length m - 1) b ≡ b = take-all (length m - 1) b (simp length-drop (omega arith)) in
+      record {
+        answer = subst (λ (b : Bool). RangeIs b m u) (eq-eqb (length m) magSize h ∙ sym t) a;
+        room = rw t (rw p at e ∙ build-same (sampleAt b) (sample m) samplesSize (in-bytes m h));
+      }

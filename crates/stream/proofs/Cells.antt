@@ -53,7 +53,8 @@ module _ (f : Kept) (c : List ℕ) (t : Typed f) where
     other-top = other-pair (codeOf f) (scienceBytes (packet f)) c (t .small) u h (t .code) (λ e. n (sym e))
 
 -- frames of other types leave a type's cells and pair alone
-science-stays : (fs : List Kept) (c : List ℕ) (u k : ℕ) → Every Typed fs → Free typeOf u fs → u < types → k < scienceSize → getD (cellsFrom c fs) (place u k) 0 ≡ getD c (place u k) 0
+science-stays : (fs : List Kept) (c : List ℕ) (u k : ℕ) → Every Typed fs → Free typeOf u fs → u < types → k < scienceSize
+    → getD (cellsFrom c fs) (place u k) 0 ≡ getD c (place u k) 0
 unfolding cellsFrom Every
 science-stays [] c u k t n h l = refl
 science-stays (f ∷ fs) c u k t n h l = science-stays fs (cellsWith f c) u k (t .1) (n .1) h l ∙ other-science f c (t .0) u (n .0) h k l

@@ -76,22 +76,34 @@ module _ (g : ℕ → ℕ) where
           eq-eqb p (cellAt q) (sym (k .is) ∙ ap (λ (u : ℕ). place u (byteOf p)) (sym c) ∙ ap (λ (u : ℕ). place (q / 83) u) (sym b))
       go false e = ne-eqb p (cellAt q) (λ i. eqb-false q (byteAt p) e (o true (eq-eqb p (cellAt q) i) refl))
 
+  -- g of cell p at its own byte
+  abbrev share : ℕ → ℕ → ℕ
+  share p q = cond (eqb p (cellAt q)) (g p) 0
+
   -- summed over the cells, or over the bytes of all types
   by-bytes : total g cells ≡ total (λ q. g (cellAt q)) cells
   by-bytes =
-      sym (total-same (λ p. total (λ q. cond (eqb p (cellAt q)) (g p) 0) cells) g cells (λ p h.
-      let k = once p h in
-      total-same (λ q. cond (eqb p (cellAt q)) (g p) 0) (λ q. cond (eqb q (byteAt p)) (g p) 0) cells (λ q l. rw (there-and-back p q h l)) ∙ only (byteAt p) (g p) cells (omega (arith, k .is-type, k .is-byte))))
-      ∙ sym (swap (λ q p. cond (eqb p (cellAt q)) (g p) 0) cells cells)
-      ∙ total-same (λ q. total (λ p. cond (eqb p (cellAt q)) (g p) 0) cells) (λ q. g (cellAt q)) cells (λ q h.
-      total-same (λ p. cond (eqb p (cellAt q)) (g p) 0) (λ p. cond (eqb p (cellAt q)) (g (cellAt q)) 0) cells (λ p l. same p q) ∙ only (cellAt q) (g (cellAt q)) cells (place-cell (q / 83) (q % 83) (omega arith) (omega arith)))
+      sym (total-same (λ p. total (share p) cells) g cells of-cell)
+      ∙ sym (swap (λ q p. share p q) cells cells)
+      ∙ total-same (λ q. total (λ p. share p q) cells) (λ q. g (cellAt q)) cells of-byte
     where
-      same : (p q : ℕ) → cond (eqb p (cellAt q)) (g p) 0 ≡ cond (eqb p (cellAt q)) (g (cellAt q)) 0
+      of-cell : (p : ℕ) → p < cells → total (share p) cells ≡ g p
+      of-cell p h =
+          let k = once p h in
+          total-same (share p) (λ q. cond (eqb q (byteAt p)) (g p) 0) cells (λ q l. rw (there-and-back p q h l))
+          ∙ only (byteAt p) (g p) cells (omega (arith, k .is-type, k .is-byte))
+
+      same : (p q : ℕ) → share p q ≡ cond (eqb p (cellAt q)) (g (cellAt q)) 0
       same p q = go (eqb p (cellAt q)) refl
         where
           go : (t : Bool) → eqb p (cellAt q) ≡ t → cond t (g p) 0 ≡ cond t (g (cellAt q)) 0
           go true e = ap g (eqb-true p (cellAt q) e)
           go false e = refl
+
+      of-byte : (q : ℕ) → q < cells → total (λ p. share p q) cells ≡ g (cellAt q)
+      of-byte q h =
+          total-same (λ p. share p q) (λ p. cond (eqb p (cellAt q)) (g (cellAt q)) 0) cells (λ p l. same p q)
+          ∙ only (cellAt q) (g (cellAt q)) cells (place-cell (q / 83) (q % 83) (omega arith) (omega arith))
 
 -- 83 bytes a type
 pub total-more : (f : ℕ → ℕ) (n j : ℕ) → total f (n + j) ≡ total f n + total (λ i. f (n + i)) j
@@ -143,17 +155,27 @@ by-marks zero n h = let z : n ≡ 0 = omega arith in subst (λ (m : ℕ). 0 ≡ 
 by-marks (suc w) n h = go (bitSet n w) refl (λ m l. by-marks w m l)
   where
     go : (t : Bool) → bitSet n w ≡ t → ((m : ℕ) → m < 2 ^ w → total (markAt m) w ≡ ones m) → total (markAt n) w + cond (bitSet n w) 1 0 ≡ ones n
-    go false e ih = rw e (omega (arith, ih n (below 1 w n (rw (add-one w) h) (λ i a b. let k : i ≡ w = omega arith in subst (λ (j : ℕ). bitSet n j ≡ false) (sym k) e))))
+    go false e ih =
+        let free : (i : ℕ) → w ≤ i → i < w + 1 → bitSet n i ≡ false = λ i a b. let k : w ≡ i = omega arith in subst (λ (j : ℕ). bitSet n j ≡ false) k e in
+        rw e (omega (arith, ih n (below 1 w n (rw (add-one w) h) free)))
     go true e ih =
         let m = n - 2 ^ w in
         let up : 2 ^ w ≤ n = above n w e in
         let small : m < 2 ^ w = omega (arith, pow-suc 2 w) in
         let is : n ≡ marked m w = as-mark n w up in
-        rw e (omega (arith, ap ones is ∙ ones-marked m w small, ih m small, total-same (markAt n) (markAt m) w (λ i l. ap (λ (b : Bool). cond b 1 0) (ap (λ (x : ℕ). bitSet x i) is ∙ marked-other m w i small (λ z. omega arith)))))
+        let other : (i : ℕ) → i < w → bitSet n i ≡ bitSet m i =
+        λ i l. ap (λ (x : ℕ). bitSet x i) is ∙ marked-other m w i small (λ z. omega arith) in
+        let same = total-same (markAt n) (markAt m) w (λ i l. ap (λ (b : Bool). cond b 1 0) (other i l)) in
+        rw e (omega (arith, ap ones is ∙ ones-marked m w small, ih m small, same))
 
-pub cells-held : (held : ℕ) → held < 2 ^ types → total (λ p. cond (holdsCell held p) 1 0) cells ≡ scienceSize * ones held
+-- the cells of the types that are held
+abbrev pub cellsIn : ℕ → ℕ
+cellsIn held = total (λ p. cond (holdsCell held p) 1 0) cells
+
+pub cells-held : (held : ℕ) → held < 2 ^ types → cellsIn held ≡ scienceSize * ones held
 cells-held held h =
     by-bytes (λ p. cond (holdsCell held p) 1 0)
-    ∙ total-same (λ q. cond (holdsCell held (cellAt q)) 1 0) (λ q. markAt held (q / 83)) cells (λ q l. ap (λ (u : ℕ). cond (bitSet held u) 1 0) (carrier-place (q / 83) (q % 83) (omega arith) (omega arith)))
+    ∙ total-same (λ q. cond (holdsCell held (cellAt q)) 1 0) (λ q. markAt held (q / 83)) cells
+    (λ q l. ap (markAt held) (carrier-place (q / 83) (q % 83) (omega arith) (omega arith)))
     ∙ by-types (markAt held) 36
     ∙ ap (λ (x : ℕ). 83 * x) (by-marks 36 held h)

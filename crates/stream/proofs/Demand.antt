@@ -36,7 +36,8 @@ module _ (xs : List Fate) (b : Buffers) (c k : ℕ) where
       let r = rounds ks (b .openCells) c k 0 chained in
       let m = frames ks (b .openSamples) c k 0 chained in
       let all-filled = each-out Joined Parted outOf Typed Filled filled (r .groups) (r .cut) (subst⁻¹ (Every Typed) (r .whole) (all-typed ks c k 0 chained)) in
-      let majors-filled = each-out Beside Behind majorOf (λ x. Unit {0}) MajorFilled (λ x xs u l. major-filled x xs l) (m .groups) (m .cut) (in-every (λ x. Unit {0}) (flat (m .groups)) (λ f i. tt)) in
+      let any = in-every (λ x. Unit {0}) (flat (m .groups)) (λ f i. tt) in
+      let majors-filled = each-out Beside Behind majorOf (λ x. Unit {0}) MajorFilled (λ x xs u l. major-filled x xs l) (m .groups) (m .cut) any in
       let parts-out = subst⁻¹ (Pairwise Filled (r .groups)) (p .cells ∙ r .is) all-filled in
       let major-out = subst⁻¹ (Pairwise MajorFilled (m .groups)) (p .samples ∙ m .is) majors-filled in
       record {

@@ -92,12 +92,16 @@ told (x ∷ xs) h t p c k l i a w =
         → ((h : Kept) (t : List Kept) (p : Kept) → Holds p (majorFrom noMajor (h ∷ t)) → at p < at x + 1 → From h t p xs)
         → From h t p (x ∷ xs)
     go true e ih =
-        let q : Holds x (majorFrom noMajor (h ∷ (t ++ (x ∷ [])))) = rw (major-more (h ∷ t) noMajor x) (holds x (majorFrom noMajor (h ∷ t))) in
-        rw (collect-on (majorFrom noMajor (h ∷ t)) (samplesFrom noSamples (h ∷ t)) x xs e, ← major-more (h ∷ t) noMajor x, ← samples-more (h ∷ t) noSamples x)
-        (told-joined Beside Behind majorOf h t p x xs _ (beside p (majorFrom noMajor (h ∷ t)) i x (omega arith) e) (ih h (t ++ (x ∷ [])) x q (omega arith)))
+        let m = majorFrom noMajor (h ∷ t) in
+        let s = samplesFrom noSamples (h ∷ t) in
+        let q : Holds x (majorFrom noMajor (h ∷ (t ++ (x ∷ [])))) = rw (major-more (h ∷ t) noMajor x) (holds x m) in
+        rw (collect-on m s x xs e, ← major-more (h ∷ t) noMajor x, ← samples-more (h ∷ t) noSamples x)
+        (told-joined Beside Behind majorOf h t p x xs _ (beside p m i x (omega arith) e) (ih h (t ++ (x ∷ [])) x q (omega arith)))
     go false e ih =
-        rw (collect-anew (majorFrom noMajor (h ∷ t)) (samplesFrom noSamples (h ∷ t)) x xs e, closes p (majorFrom noMajor (h ∷ t)) i (samplesFrom noSamples (h ∷ t)))
-        (told-opened Beside Behind majorOf h t p x xs _ (behind p (majorFrom noMajor (h ∷ t)) i x (omega arith) e) (ih x [] x (holds x noMajor) (omega arith)))
+        let m = majorFrom noMajor (h ∷ t) in
+        let s = samplesFrom noSamples (h ∷ t) in
+        rw (collect-anew m s x xs e, closes p m i s)
+        (told-opened Beside Behind majorOf h t p x xs _ (behind p m i x (omega arith) e) (ih x [] x (holds x noMajor) (omega arith)))
 
 -- from nothing open: the major frames handed out are some cutting of the kept records
 abbrev pub Frames : List ℤ → List Kept → Type 0

@@ -12,13 +12,15 @@ use Rattle.stream.specs.Sending.{Kept}
 use Rattle.stream.proofs.Marking.{Rising}
 
 -- what neighbours share, all share
-pub all-share : (key : Kept → ℕ) (R : Kept → Kept → Type 0) → ((p f : Kept) → R p f → key f ≡ key p) → (fs : List Kept) (p : Kept) → Linked R p fs → Every (λ f. key f ≡ key p) (p ∷ fs)
+pub all-share : (key : Kept → ℕ) (R : Kept → Kept → Type 0) → ((p f : Kept) → R p f → key f ≡ key p) → (fs : List Kept) (p : Kept)
+    → Linked R p fs → Every (λ f. key f ≡ key p) (p ∷ fs)
 unfolding Linked Every
 all-share key R same [] p h = (refl, tt)
 all-share key R same (f ∷ fs) p h = (refl, subst (λ (n : ℕ). Every (λ x. key x ≡ n) (f ∷ fs)) (same p f (h .0)) (all-share key R same fs f (h .1)))
 
 -- where a key rises from each to the next, it rises throughout
-pub rising-links : (key : Kept → ℕ) (R : Kept → Kept → Type 0) → ((p f : Kept) → R p f → key p < key f) → (fs : List Kept) (p : Kept) → Linked R p fs → Rising key (key p + 1) fs
+pub rising-links : (key : Kept → ℕ) (R : Kept → Kept → Type 0) → ((p f : Kept) → R p f → key p < key f) → (fs : List Kept) (p : Kept)
+    → Linked R p fs → Rising key (key p + 1) fs
 unfolding Linked Rising
 rising-links key R up [] p h = tt
 rising-links key R up (f ∷ fs) p h = (omega (arith, up p f (h .0)), rising-links key R up fs f (h .1))
@@ -78,7 +80,12 @@ module _ {O : Type 0} (R S : Kept → Kept → Type 0) (out : List Kept → O) w
 
   pub grouped : (x : Kept) (xs : List Kept) (handed : List O) → Told x [] x xs handed → Grouped (x ∷ xs) handed
   unfolding Cut flat
-  grouped x xs handed r = record { groups = (x ∷ r .tail) ∷ r .rest; is = r .is; whole = ap (λ (g : List Kept). x ∷ g) (r .whole); cut = (r .linked, r .across, r .cut) }
+  grouped x xs handed r = record {
+    groups = (x ∷ r .tail) ∷ r .rest;
+    is = r .is;
+    whole = ap (λ (g : List Kept). x ∷ g) (r .whole);
+    cut = (r .linked, r .across, r .cut);
+  }
 
   -- what is so of each group that is handed out
   pub each-out : (Q : Kept → Type 0) (P : List Kept → O → Type 0) → ((x : Kept) (xs : List Kept) → Every Q (x ∷ xs) → Linked R x xs → P (x ∷ xs) (out (x ∷ xs)))

@@ -18,9 +18,12 @@ use Rattle.stream.proofs.Chains.{Chain, rising-counts}
 use Rattle.stream.proofs.Members.{In, above, those-in, neighbours-in, neighbours-rise}
 use Rattle.stream.proofs.Counting.{total-same, total-none, total-add, total-more, total-suc, only}
 
--- how many kept records have a count below n
+-- whether one of the kept records has the count i, as a number, and how many have one below n
+abbrev keptAt : List Kept → ℕ → ℕ
+keptAt ks i = cond (hasCount ks i) 1 0
+
 abbrev keptBelow : List Kept → ℕ → ℕ
-keptBelow ks n = total (λ i. cond (hasCount ks i) 1 0) n
+keptBelow ks n = total (keptAt ks) n
 
 -- none has one below them all
 none-there : (ks : List Kept) (low n : ℕ) → Rising at low ks → n < low → hasCount ks n ≡ false
@@ -29,17 +32,17 @@ none-there [] low n r h = refl
 none-there (x ∷ ks) low n r h = rw (ne-eqb n (at x) (λ e. omega (arith, r .0)), none-there ks (at x + 1) n (r .1) (omega (arith, r .0)))
 
 none-below : (ks : List Kept) (low n : ℕ) → Rising at low ks → n ≤ low → keptBelow ks n ≡ 0
-none-below ks low n r h = total-none (λ i. cond (hasCount ks i) 1 0) n (λ i l. rw (none-there ks low i r (omega arith)))
+none-below ks low n r h = total-none (keptAt ks) n (λ i l. rw (none-there ks low i r (omega arith)))
 
 -- the first of them adds one
 first-adds : (x : Kept) (ks : List Kept) (n : ℕ) → Rising at (at x + 1) ks → at x < n → keptBelow (x ∷ ks) n ≡ 1 + keptBelow ks n
 unfolding hasCount
 first-adds x ks n r h =
-    total-same (λ i. cond (hasCount (x ∷ ks) i) 1 0) (λ i. cond (eqb i (at x)) 1 0 + cond (hasCount ks i) 1 0) n (λ i l. each i)
-    ∙ sym (total-add (λ i. cond (eqb i (at x)) 1 0) (λ i. cond (hasCount ks i) 1 0) n)
+    total-same (keptAt (x ∷ ks)) (λ i. cond (eqb i (at x)) 1 0 + keptAt ks i) n (λ i l. each i)
+    ∙ sym (total-add (λ i. cond (eqb i (at x)) 1 0) (keptAt ks) n)
     ∙ ap (λ (y : ℕ). y + keptBelow ks n) (only (at x) 1 n h)
   where
-    each : (i : ℕ) → cond (hasCount (x ∷ ks) i) 1 0 ≡ cond (eqb i (at x)) 1 0 + cond (hasCount ks i) 1 0
+    each : (i : ℕ) → keptAt (x ∷ ks) i ≡ cond (eqb i (at x)) 1 0 + keptAt ks i
     each i = go (eqb i (at x)) refl
       where
         go : (t : Bool) → eqb i (at x) ≡ t → cond (t || hasCount ks i) 1 0 ≡ cond t 1 0 + cond (hasCount ks i) 1 0
@@ -56,13 +59,15 @@ there (x ∷ ks) p (inr i) = rw (there ks p i) (or-true (eqb (at p) (at x)))
 count-is : (ks : List Kept) (c k l : ℕ) → Chain c k l ks → (x : Kept) → In x ks → at x + l ≡ c + keptBelow ks (at x) + x .lost
 unfolding Chain Some Rising
 count-is [] c k l h x i = absurd i
-count-is (y ∷ ks) c k l h x (inl e) = subst (λ (z : Kept). at z + l ≡ c + keptBelow (y ∷ ks) (at z) + z .lost) e (omega (arith, h .0 .counted, none-below (y ∷ ks) (at y) (at y) rises (omega arith)))
-  where
-    rises : Rising at (at y) (y ∷ ks)
-    rises = (omega arith, rising-counts ks (at y + 1) (next (y .serial) (y .bytes)) (y .lost) (h .1))
+count-is (y ∷ ks) c k l h x (inl e) =
+    let rises : Rising at (at y) (y ∷ ks) = (omega arith, rising-counts ks (at y + 1) (next (y .serial) (y .bytes)) (y .lost) (h .1)) in
+    let none : keptBelow (y ∷ ks) (at y) ≡ 0 = none-below (y ∷ ks) (at y) (at y) rises (omega arith) in
+    subst (λ (z : Kept). at z + l ≡ c + keptBelow (y ∷ ks) (at z) + z .lost) e (omega (arith, h .0 .counted, none))
 count-is (y ∷ ks) c k l h x (inr i) =
-    let r = rising-counts ks (at y + 1) (next (y .serial) (y .bytes)) (y .lost) (h .1) in
-    omega (arith, h .0 .counted, count-is ks (at y + 1) (next (y .serial) (y .bytes)) (y .lost) (h .1) x i, first-adds y ks (at x) r (omega (arith, above at ks (at y + 1) x r i)))
+    let n = next (y .serial) (y .bytes) in
+    let r = rising-counts ks (at y + 1) n (y .lost) (h .1) in
+    let one = first-adds y ks (at x) r (omega (arith, above at ks (at y + 1) x r i)) in
+    omega (arith, h .0 .counted, count-is ks (at y + 1) n (y .lost) (h .1) x i, one)
 
 all-ones : (b : ℕ → Bool) (n : ℕ) → total (λ i. cond (b i) 0 1) n + total (λ i. cond (b i) 1 0) n ≡ n
 unfolding total
@@ -78,12 +83,18 @@ module _ (ks : List Kept) (c k l : ℕ) (h : Chain c k l ks) (p f : Kept) (i : I
   unaccepted-lost =
       let m = at f - (at p + 1) in
       let e : at p + 1 + m ≡ at f = omega arith in
-      let a : keptBelow ks (at f) ≡ keptBelow ks (at p + 1) + total (λ n. cond (hasCount ks (at p + 1 + n)) 1 0) m = ap (keptBelow ks) (sym e) ∙ total-more (λ n. cond (hasCount ks n) 1 0) (at p + 1) m in
-      let b : keptBelow ks (at p + 1) ≡ keptBelow ks (at p) + 1 = ap (keptBelow ks) (add-one (at p)) ∙ total-suc (λ n. cond (hasCount ks n) 1 0) (at p) ∙ ap (λ (t : Bool). keptBelow ks (at p) + cond t 1 0) (there ks p i) in
+      let a : keptBelow ks (at f) ≡ keptBelow ks (at p + 1) + total (λ n. keptAt ks (at p + 1 + n)) m =
+      ap (keptBelow ks) (sym e) ∙ total-more (keptAt ks) (at p + 1) m in
+      let b : keptBelow ks (at p + 1) ≡ keptBelow ks (at p) + 1 =
+      ap (keptBelow ks) (add-one (at p))
+      ∙ total-suc (keptAt ks) (at p)
+      ∙ ap (λ (t : Bool). keptBelow ks (at p) + cond t 1 0) (there ks p i) in
       omega (arith, a, b, count-is ks c k l h p i, count-is ks c k l h f j, all-ones (λ n. hasCount ks (at p + 1 + n)) m)
 
 -- neighbouring real-time records
 pub real-lost : (ks : List Kept) (c k l : ℕ) → Chain c k l ks → (p f : Kept) → Neighbours p f (reals ks) → unaccepted ks (at p) (at f) ≡ lostBetween p f
 real-lost ks c k l h p f n =
     let i = neighbours-in (reals ks) p f n in
-    unaccepted-lost ks c k l h p f (those-in isReal ks p (i .0) .0) (those-in isReal ks f (i .1) .0) (neighbours-rise at (reals ks) c p f (rising-those isReal at ks c (rising-counts ks c k l h)) n)
+    let r : Rising at c (reals ks) = rising-those isReal at ks c (rising-counts ks c k l h) in
+    unaccepted-lost ks c k l h p f
+    (those-in isReal ks p (i .0) .0) (those-in isReal ks f (i .1) .0) (neighbours-rise at (reals ks) c p f r n)

@@ -14,7 +14,8 @@ use Rattle.tables.proofs.Upto.{both-left, both-right, upto-at}
 use Rattle.bits.specs.Numbers.{bitOf, bit, join, number}
 use Rattle.bits.specs.Twelve.{Bytes}
 use Rattle.record.specs.Frame.{kindOf, kindOfType}
-use Rattle.record.specs.Rules.{rules, broken, sizeHolds, syncHolds, spacecraftHolds, rateHolds, spareHolds, dayHolds, millisecondHolds, statusSpareHolds, flagsHold, typeHolds}
+use Rattle.record.specs.Rules.{rules, broken, sizeHolds, syncHolds, spacecraftHolds, rateHolds, spareHolds, dayHolds, millisecondHolds}
+use Rattle.record.specs.Rules.{statusSpareHolds, flagsHold, typeHolds}
 use Rattle.record.specs.Contents.{recordOf}
 use Rattle.cells.specs.Laying.{cellsSize}
 use Rattle.record.specs.Frame.{isRealTime}
@@ -64,13 +65,17 @@ is-right c t h =
     }
 
 -- real-time records of types 5 and 6 at counts 100 to 139, and other ones of type 62
-all-right : (i : ℕ) → i < 40 → T (both (right 5 (100 + i)) (both (right 6 (100 + i)) (right 62 (100 + i))))
-unfolding both right made everyByte broken firstBroken rules sizeHolds syncHolds spacecraftHolds rateHolds spareHolds dayHolds millisecondHolds statusSpareHolds flagsHold typeHolds sentCount recordOf number join bit bitOf
-all-right = upto-at (λ i. both (right 5 (100 + i)) (both (right 6 (100 + i)) (right 62 (100 + i)))) 40 tt
+abbrev allRight : ℕ → Bool
+allRight c = both (right 5 c) (both (right 6 c) (right 62 c))
+
+all-right : (i : ℕ) → i < 40 → T (allRight (100 + i))
+unfolding both right made everyByte broken firstBroken rules sizeHolds syncHolds spacecraftHolds rateHolds spareHolds dayHolds
+    millisecondHolds statusSpareHolds flagsHold typeHolds sentCount recordOf number join bit bitOf
+all-right = upto-at (λ i. allRight (100 + i)) 40 tt
 
 module _ (c : ℕ) (l : 100 ≤ c) (h : c < 140) where
-  tested : T (both (right 5 c) (both (right 6 c) (right 62 c)))
-  tested = let e : 100 + (c - 100) ≡ c = omega arith in subst (λ (d : ℕ). T (both (right 5 d) (both (right 6 d) (right 62 d)))) e (all-right (c - 100) (omega arith))
+  tested : T (allRight c)
+  tested = let e : 100 + (c - 100) ≡ c = omega arith in subst (λ (d : ℕ). T (allRight d)) e (all-right (c - 100) (omega arith))
 
   pub five : Right c 5
   five = is-right c 5 (both-left (right 5 c) _ tested)
@@ -104,7 +109,9 @@ module _ (c k : ℕ) (l : 100 ≤ c) (h : c < 140) where
   sent-six e = let r = six c l h in record { bytes = r .bytes; passes = r .passes; counted = r .counted; typed = λ t. r .typed ∙ sym e }
 
   pub sent-filler : SentAt c k (made c 62)
-  sent-filler = let r = filler c l h in record { bytes = r .bytes; passes = r .passes; counted = r .counted; typed = λ t. absurd (true≢false (sym t ∙ other-filler c)) }
+  sent-filler =
+      let r = filler c l h in
+      record { bytes = r .bytes; passes = r .passes; counted = r .counted; typed = λ t. absurd (true≢false (sym t ∙ other-filler c)) }
 
 -- buffers of 0
 unfoldable pub lent : Buffers

@@ -71,7 +71,9 @@ module _ (key : Kept → ℕ) where
   pub marks-count : (fs : List Kept) (low m : ℕ) → m < 2 ^ low → Rising low fs → ones (marksFrom m fs) ≡ ones m + length fs
   unfolding marksFrom Rising
   marks-count [] low m h r = omega arith
-  marks-count (f ∷ fs) low m h r = omega (arith, marks-count fs (key f + 1) (marked m (key f)) (fits-more f low m h (r .0)) (r .1), ones-marked m (key f) (fits f low m h (r .0)))
+  marks-count (f ∷ fs) low m h r =
+      let more = fits-more f low m h (r .0) in
+      omega (arith, marks-count fs (key f + 1) (marked m (key f)) more (r .1), ones-marked m (key f) (fits f low m h (r .0)))
 
   pub marks-below : (fs : List Kept) (low m n : ℕ) → m < 2 ^ low → low ≤ n → Rising low fs → Every (λ f. key f < n) fs → marksFrom m fs < 2 ^ n
   unfolding marksFrom Rising Every

@@ -15,6 +15,10 @@ use Rattle.stream.proofs.Marking.{Rising, rising-down}
 abbrev pub In : Kept → List Kept → Type 0
 In f xs = Some (λ x. x ≡ f) xs
 
+-- what is so of two, is so of those that they are
+pub of-both : (T : Kept → Kept → Type 0) (x y p f : Kept) → (x ≡ p) × (y ≡ f) → T x y → T p f
+of-both T x y p f e t = subst (λ (z : Kept). T z f) (e .0) (subst (T x) (e .1) t)
+
 -- what each has, an element has; and what each element has, each has
 pub every-in : (P : Kept → Type 0) (xs : List Kept) (f : Kept) → Every P xs → In f xs → P f
 unfolding Every Some
@@ -115,15 +119,23 @@ Among rs g = (x : Kept) → In x g → In x rs
 pub among-all : (rs g : List Kept) → g ≡ rs → Among rs g
 among-all rs g e x i = subst (In x) e i
 
+-- all of two lists, one behind the other, and so of each
+among-front : (rs g h : List Kept) → Among rs (g ++ h) → Among rs g
+among-front rs g h a x i = a x (in-front g h x i)
+
+among-behind : (rs g h : List Kept) → Among rs (g ++ h) → Among rs h
+among-behind rs g h a x i = a x (in-behind g h x i)
+
 -- parts gs of the records rs, each handed out as one of os
 module _ {O : Type 0} (P : List Kept → O → Type 0) (rs : List Kept) where
   -- what is so of each
-  pub each : (Q : O → Type 0) → ((g : List Kept) (o : O) → P g o → Among rs g → Q o) → (gs : List (List Kept)) (os : List O) → Pairwise P gs os → Among rs (flat gs) → Every Q os
+  pub each : (Q : O → Type 0) → ((g : List Kept) (o : O) → P g o → Among rs g → Q o) → (gs : List (List Kept)) (os : List O)
+      → Pairwise P gs os → Among rs (flat gs) → Every Q os
   unfolding Pairwise Every flat
   each Q q [] [] h a = tt
   each Q q [] (o ∷ os) h a = absurd h
   each Q q (g ∷ gs) [] h a = absurd h
-  each Q q (g ∷ gs) (o ∷ os) h a = (q g o (h .0) (λ x i. a x (in-front g (flat gs) x i)), each Q q gs os (h .1) (λ x i. a x (in-behind g (flat gs) x i)))
+  each Q q (g ∷ gs) (o ∷ os) h a = (q g o (h .0) (among-front rs g (flat gs) a), each Q q gs os (h .1) (among-behind rs g (flat gs) a))
 
   -- what is so of one
   pub some-out : (Q : O → Type 0) (B : List Kept → Type 0) → ((g : List Kept) (o : O) → P g o → Among rs g → B g → Q o)
@@ -131,32 +143,36 @@ module _ {O : Type 0} (P : List Kept → O → Type 0) (rs : List Kept) where
   unfolding Pairwise Some flat
   some-out Q B q [] os h a s = absurd s
   some-out Q B q (g ∷ gs) [] h a s = absurd h
-  some-out Q B q (g ∷ gs) (o ∷ os) h a (inl b) = inl (q g o (h .0) (λ x i. a x (in-front g (flat gs) x i)) b)
-  some-out Q B q (g ∷ gs) (o ∷ os) h a (inr s) = inr (some-out Q B q gs os (h .1) (λ x i. a x (in-behind g (flat gs) x i)) s)
+  some-out Q B q (g ∷ gs) (o ∷ os) h a (inl b) = inl (q g o (h .0) (among-front rs g (flat gs) a) b)
+  some-out Q B q (g ∷ gs) (o ∷ os) h a (inr s) = inr (some-out Q B q gs os (h .1) (among-behind rs g (flat gs) a) s)
 
   -- f is in a part exactly when what is handed out for it is its own: then it has exactly one
-  module _ (Own : O → Type 0) (f : Kept) (own-in : (g : List Kept) (o : O) → P g o → Among rs g → In f g → Own o) (in-own : (g : List Kept) (o : O) → P g o → Among rs g → Own o → In f g) where
+  module _ (Own : O → Type 0) (f : Kept)
+      (own-in : (g : List Kept) (o : O) → P g o → Among rs g → In f g → Own o)
+      (in-own : (g : List Kept) (o : O) → P g o → Among rs g → Own o → In f g) where
     none : (gs : List (List Kept)) (os : List O) → Pairwise P gs os → Among rs (flat gs) → (In f (flat gs) → ⊥) → Every (λ o. Own o → ⊥) os
     unfolding Pairwise Every flat
     none [] [] h a n = tt
     none [] (o ∷ os) h a n = absurd h
     none (g ∷ gs) [] h a n = absurd h
     none (g ∷ gs) (o ∷ os) h a n = (
-      λ q. n (in-front g (flat gs) f (in-own g o (h .0) (λ x i. a x (in-front g (flat gs) x i)) q)),
-      none gs os (h .1) (λ x i. a x (in-behind g (flat gs) x i)) (λ i. n (in-behind g (flat gs) f i)),
+      λ q. n (in-front g (flat gs) f (in-own g o (h .0) (among-front rs g (flat gs) a) q)),
+      none gs os (h .1) (among-behind rs g (flat gs) a) (λ i. n (in-behind g (flat gs) f i)),
     )
 
-    pub once-in : (key : Kept → ℕ) (gs : List (List Kept)) (os : List O) (low : ℕ) → Pairwise P gs os → Among rs (flat gs) → Rising key low (flat gs) → In f (flat gs) → ExactlyOne Own os
+    pub once-in : (key : Kept → ℕ) (gs : List (List Kept)) (os : List O) (low : ℕ) → Pairwise P gs os → Among rs (flat gs)
+        → Rising key low (flat gs) → In f (flat gs) → ExactlyOne Own os
     unfolding Pairwise ExactlyOne flat Some
     once-in key [] os low h a r i = absurd i
     once-in key (g ∷ gs) [] low h a r i = absurd h
-    once-in key (g ∷ gs) (o ∷ os) low h a r i = go (in-either g (flat gs) f i) (λ j. once-in key gs os low (h .1) behind (rising-behind key g (flat gs) low r) j)
+    once-in key (g ∷ gs) (o ∷ os) low h a r i =
+        go (in-either g (flat gs) f i) (λ j. once-in key gs os low (h .1) behind (rising-behind key g (flat gs) low r) j)
       where
         front : Among rs g
-        front = λ x i. a x (in-front g (flat gs) x i)
+        front = among-front rs g (flat gs) a
 
         behind : Among rs (flat gs)
-        behind = λ x i. a x (in-behind g (flat gs) x i)
+        behind = among-behind rs g (flat gs) a
 
         go : In f g ⊎ In f (flat gs) → (In f (flat gs) → ExactlyOne Own os) → ExactlyOne Own (o ∷ os)
         go (inl j) ih = inl (own-in g o (h .0) front j, none gs os (h .1) behind (λ q. parted key g (flat gs) low f r j q))
@@ -172,7 +188,7 @@ module _ (R S : Kept → Kept → Type 0) (p f : Kept) where
   unfolding Across Cut flat Neighbours Some final
   within [] x [] a c ih n = absurd n
   within [] x ([] ∷ gs) a c ih n = absurd a
-  within [] x ((y ∷ ys) ∷ gs) a c ih (inl e) = inr (subst (λ (z : Kept). S z f) (e .0) (subst (S x) (e .1) a))
+  within [] x ((y ∷ ys) ∷ gs) a c ih (inl e) = inr (of-both S x y p f e a)
   within [] x ((y ∷ ys) ∷ gs) a c ih (inr n) = ⊎-elim (λ (s : Some Both ((y ∷ ys) ∷ gs)). inl (inr s)) (λ (s : S p f). inr s) (ih n)
   within (y ∷ ys) x gs a c ih (inl e) = inl (inl (inl (e .0), inr (inl (e .1))))
   within (y ∷ ys) x gs a c ih (inr n) = ⊎-elim wider (λ (s : S p f). inr s) (within ys y gs a c ih n)
@@ -188,7 +204,7 @@ module _ (R S : Kept → Kept → Type 0) (p f : Kept) where
   beside ((x ∷ xs) ∷ gs) c n = within xs x gs (c .1) (c .2) (λ m. beside gs (c .2) m) n
 
 -- one of them has it, or none
-pub found : (key : Kept → ℕ) (u : ℕ) (g : List Kept) → Some (λ f. key f ≡ u) g ⊎ Every (λ f. key f ≡ u → ⊥) g
+found : (key : Kept → ℕ) (u : ℕ) (g : List Kept) → Some (λ f. key f ≡ u) g ⊎ Every (λ f. key f ≡ u → ⊥) g
 unfolding Some Every
 found key u [] = inr tt
 found key u (x ∷ g) = go (ℕ-discrete (key x) u) (found key u g)
@@ -197,6 +213,12 @@ found key u (x ∷ g) = go (ℕ-discrete (key x) u) (found key u g)
     go (yes e) r = inl (inl e)
     go (no e) (inl s) = inl (inr s)
     go (no e) (inr n) = inr (e, n)
+
+-- where it is not so that none has it, what follows from one that has it holds
+pub one-has : (key : Kept → ℕ) (u : ℕ) (g : List Kept) (C : Type 0) → (Every (λ f. key f ≡ u → ⊥) g → ⊥)
+    → ((f : Kept) → In f g → key f ≡ u → C) → C
+one-has key u g C some so =
+    ⊎-elim (λ (s : Some (λ f. key f ≡ u) g). in-some (λ f. key f ≡ u) C g s so) (λ (n : Every (λ f. key f ≡ u → ⊥) g). absurd (some n)) (found key u g)
 
 -- neighbours
 pub neighbours-in : (xs : List Kept) (p f : Kept) → Neighbours p f xs → In p xs × In f xs
@@ -210,5 +232,5 @@ pub neighbours-rise : (key : Kept → ℕ) (xs : List Kept) (low : ℕ) (p f : K
 unfolding Neighbours Rising
 neighbours-rise key [] low p f r n = absurd n
 neighbours-rise key (x ∷ []) low p f r n = absurd n
-neighbours-rise key (x ∷ y ∷ ys) low p f r (inl e) = subst (λ (z : Kept). key z < key f) (e .0) (subst (λ (z : Kept). key x < key z) (e .1) (omega (arith, r .1 .0)))
+neighbours-rise key (x ∷ y ∷ ys) low p f r (inl e) = of-both (λ z w. key z < key w) x y p f e (omega (arith, r .1 .0))
 neighbours-rise key (x ∷ y ∷ ys) low p f r (inr n) = neighbours-rise key (y ∷ ys) (key x + 1) p f (r .1) n

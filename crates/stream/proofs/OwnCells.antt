@@ -21,15 +21,17 @@ use Rattle.stream.specs.Filling.{packet, Stands, Missing, Filled}
 use Rattle.stream.specs.Once.{Own, Unmixed}
 use Rattle.stream.proofs.Chains.{serial, Typed}
 use Rattle.stream.proofs.Grouping.{all-share}
-use Rattle.stream.proofs.Marking.{Rising}
-use Rattle.stream.proofs.Members.{found, In, Among, among-all, every-in, in-every, some-in, in-some, each, some-out, once-in, unique, beside, neighbours-in, neighbours-rise}
+use Rattle.stream.proofs.Marking.{Rising, Free}
+use Rattle.stream.proofs.Members.{In, Among, among-all, every-in, in-every, some-in, in-some, one-has}
+use Rattle.stream.proofs.Members.{each, some-out, once-in, unique, beside, neighbours-in, neighbours-rise}
 
 -- a part of a cutting, with what links it
 unfoldable pub Tied : (Kept → Kept → Type 0) → List Kept → Type 0
 Tied R [] = ⊥
 Tied R (x ∷ xs) = Linked R x xs
 
-pub all-tied : {O : Type 0} (R S : Kept → Kept → Type 0) (P : List Kept → O → Type 0) (gs : List (List Kept)) (os : List O) → Cut R S gs → Pairwise P gs os → Pairwise (λ g o. P g o × Tied R g) gs os
+pub all-tied : {O : Type 0} (R S : Kept → Kept → Type 0) (P : List Kept → O → Type 0) (gs : List (List Kept)) (os : List O)
+    → Cut R S gs → Pairwise P gs os → Pairwise (λ g o. P g o × Tied R g) gs os
 unfolding Cut Pairwise Tied
 all-tied R S P [] [] c h = tt
 all-tied R S P [] (o ∷ os) c h = absurd h
@@ -71,14 +73,11 @@ module _ (rs : List Kept) (c k : ℕ) (counts : Rising at c rs) (serials : Risin
       in-some (λ x. (at x ≡ a .report .first) × (round x ≡ round f)) (In f (h ∷ t)) rs (o .1) (λ x j q.
       let e : x ≡ h = unique at rs c x h counts j (w h (inl refl)) (q .0 ∙ p .0 .first) in
       let r : round h ≡ round f = subst (λ (y : Kept). round y ≡ round f) e (q .1) in
-      ⊎-elim (λ (s : Some (λ y. typeOf y ≡ typeOf f) (h ∷ t)). from r s) (λ (n : Every (λ y. typeOf y ≡ typeOf f → ⊥) (h ∷ t)). absurd (none n)) (found typeOf (typeOf f) (h ∷ t)))
+      one-has typeOf (typeOf f) (h ∷ t) (In f (h ∷ t)) some (λ y j e.
+      subst (λ (z : Kept). In z (h ∷ t)) (same-record f y i (w y j) (one-round t h y (p .1) j ∙ r) e) j))
     where
-      from : round h ≡ round f → Some (λ y. typeOf y ≡ typeOf f) (h ∷ t) → In f (h ∷ t)
-      from r s = in-some (λ y. typeOf y ≡ typeOf f) (In f (h ∷ t)) (h ∷ t) s (λ y j e.
-          subst (λ (z : Kept). In z (h ∷ t)) (same-record f y i (w y j) (one-round t h y (p .1) j ∙ r) e) j)
-
-      none : Every (λ y. typeOf y ≡ typeOf f → ⊥) (h ∷ t) → ⊥
-      none n = let b = every-in Typed rs f known i .typed in true≢false (sym (o .0) ∙ p .0 .others (typeOf f) (omega arith) n .unheld)
+      some : Free typeOf (typeOf f) (h ∷ t) → ⊥
+      some n = let b = every-in Typed rs f known i .typed in true≢false (sym (o .0) ∙ p .0 .others (typeOf f) (omega arith) n .unheld)
 
   -- what is held comes from one round
   unmixed-part : (g : List Kept) (a : ClosedAccumulation) → Part g a → Among rs g → Unmixed rs a
@@ -91,40 +90,60 @@ module _ (rs : List Kept) (c k : ℕ) (counts : Rising at c rs) (serials : Risin
         let o = once q l in
         source (carrier q) (o .is-type) e (λ f. getD (a .cells) q 0 ≡ getD (scienceBytes (packet f)) (byteOf q) 0) (λ f z s.
         sym (ap (λ (n : ℕ). getD (a .cells) n 0) (ap (λ (u : ℕ). place u (byteOf q)) z ∙ o .is)) ∙ s .science (byteOf q) (o .is-byte));
-    no-cell = λ q l e. let o = once q l in sym (ap (λ (n : ℕ). getD (a .cells) n 0) (o .is)) ∙ absent (carrier q) (o .is-type) e .science (byteOf q) (o .is-byte);
+    no-cell = λ q l e.
+        let o = once q l in
+        sym (ap (λ (n : ℕ). getD (a .cells) n 0) (o .is)) ∙ absent (carrier q) (o .is-type) e .science (byteOf q) (o .is-byte);
     pair = λ u l e. source u l e (λ f. pairAt (a .cells) u ≡ topPair (frameCode (packet f))) (λ f z s. ap (λ (n : ℕ). pairAt (a .cells) n) (sym z) ∙ s .pair);
     no-pair = λ u l e. absent u l e .pair;
   }
     where
+      stands : (y : Kept) → In y (h ∷ t) → Stands y a
+      stands y j = every-in (λ f. Stands f a) (h ∷ t) y (p .0 .own) j
+
       -- a type that is held is that of a record of the part
-      source : (u : ℕ) → u < types → bitSet (a .report .held) u ≡ true → (Q : Kept → Type 0) → ((f : Kept) → typeOf f ≡ u → Stands f a → Q f) → Some (λ f. (typeOf f ≡ u) × (round f ≡ round h) × Q f) rs
+      source : (u : ℕ) → u < types → bitSet (a .report .held) u ≡ true
+          → (Q : Kept → Type 0) → ((f : Kept) → typeOf f ≡ u → Stands f a → Q f)
+          → Some (λ f. (typeOf f ≡ u) × (round f ≡ round h) × Q f) rs
       source u l e Q k =
-          ⊎-elim
-          (λ (s : Some (λ y. typeOf y ≡ u) (h ∷ t)). in-some (λ y. typeOf y ≡ u) (Some (λ f. (typeOf f ≡ u) × (round f ≡ round h) × Q f) rs) (h ∷ t) s (λ y j z.
-          some-in (λ f. (typeOf f ≡ u) × (round f ≡ round h) × Q f) rs y (w y j) (z, one-round t h y (p .1) j, k y z (every-in (λ f. Stands f a) (h ∷ t) y (p .0 .own) j))))
-          (λ (n : Every (λ y. typeOf y ≡ u → ⊥) (h ∷ t)). absurd (true≢false (sym e ∙ p .0 .others u l n .unheld)))
-          (found typeOf u (h ∷ t))
+          let S : Kept → Type 0 = λ f. (typeOf f ≡ u) × (round f ≡ round h) × Q f in
+          one-has typeOf u (h ∷ t) (Some S rs) (λ n. true≢false (sym e ∙ p .0 .others u l n .unheld)) (λ y j z.
+          some-in S rs y (w y j) (z, one-round t h y (p .1) j, k y z (stands y j)))
 
       absent : (u : ℕ) → u < types → bitSet (a .report .held) u ≡ false → Missing u a
-      absent u l e = p .0 .others u l (in-every (λ y. typeOf y ≡ u → ⊥) (h ∷ t) (λ y j q. true≢false (sym (every-in (λ f. Stands f a) (h ∷ t) y (p .0 .own) j .held) ∙ ap (λ (n : ℕ). bitSet (a .report .held) n) q ∙ e)))
+      absent u l e =
+          p .0 .others u l (in-every (λ y. typeOf y ≡ u → ⊥) (h ∷ t) (λ y j q.
+          true≢false (sym (stands y j .held) ∙ ap (λ (n : ℕ). bitSet (a .report .held) n) q ∙ e)))
 
   -- all accumulations handed out
   module _ (gs : List (List Kept)) (os : List ClosedAccumulation) (whole : flat gs ≡ rs) (parts : Pairwise Part gs os) where
+    all-in : Among rs (flat gs)
+    all-in = among-all rs (flat gs) whole
+
     pub own-once : Every (λ f. ExactlyOne (Own rs f) os) rs
-    own-once = in-every _ rs (λ f i. once-in Part rs (Own rs f) f (part-own f) (own-part f i) serial gs os k parts (among-all rs (flat gs) whole) (subst⁻¹ (Rising serial k) whole serials) (subst⁻¹ (In f) whole i))
+    own-once = in-every _ rs (λ f i.
+        once-in Part rs (Own rs f) f (part-own f) (own-part f i) serial gs os k parts all-in
+        (subst⁻¹ (Rising serial k) whole serials) (subst⁻¹ (In f) whole i))
 
     pub own-stands : Every (λ f. Every (λ a. Own rs f a → Stands f a) os) rs
-    own-stands = in-every _ rs (λ f i. each Part rs (λ a. Own rs f a → Stands f a) (λ g a p w o. every-in (λ f. Stands f a) g f (p .0 .own) (own-part f i g a p w o)) gs os parts (among-all rs (flat gs) whole))
+    own-stands = in-every _ rs (λ f i.
+        each Part rs (λ a. Own rs f a → Stands f a)
+        (λ g a p w o. every-in (λ f. Stands f a) g f (p .0 .own) (own-part f i g a p w o)) gs os parts all-in)
 
     pub all-unmixed : Every (Unmixed rs) os
-    all-unmixed = each Part rs (Unmixed rs) unmixed-part gs os parts (among-all rs (flat gs) whole)
+    all-unmixed = each Part rs (Unmixed rs) unmixed-part gs os parts all-in
 
-    pub torn-where : Cut Joined Parted gs → (p f : Kept) → Neighbours p f rs → round p ≡ round f → Some (λ a. Own rs p a × Own rs f a) os ⊎ (tears ≤ lostBetween p f)
+    pub torn-where : Cut Joined Parted gs → (p f : Kept) → Neighbours p f rs → round p ≡ round f
+        → Some (λ a. Own rs p a × Own rs f a) os ⊎ (tears ≤ lostBetween p f)
     torn-where cut p f n r =
-        ⊎-elim (λ (s : Some (λ g. In p g × In f g) gs). inl (some-out Part rs (λ a. Own rs p a × Own rs f a) (λ g. In p g × In f g) (λ g a q w i. (part-own p g a q w (i .0), part-own f g a q w (i .1))) gs os parts (among-all rs (flat gs) whole) s))
+        let Both : List Kept → Type 0 = λ g. In p g × In f g in
+        ⊎-elim (λ (s : Some Both gs). inl (some-out Part rs (λ a. Own rs p a × Own rs f a) Both owned gs os parts all-in s))
         (λ (s : Parted p f). inr (omega (arith, s r, rises)))
         (beside Joined Parted p f gs cut (subst⁻¹ (Neighbours p f) whole n))
       where
+        -- where both stand in one part, both have its accumulation
+        owned : (g : List Kept) (a : ClosedAccumulation) → Part g a → Among rs g → In p g × In f g → Own rs p a × Own rs f a
+        owned g a q w i = (part-own p g a q w (i .0), part-own f g a q w (i .1))
+
         -- of one round, the later one has the higher type
         rises : typeOf p < typeOf f
         rises =

@@ -3,7 +3,6 @@
 use mathlib.Core.Path.{_≡_, sym, ap, subst, subst⁻¹, _∙_}
 use mathlib.Core.Bool.{true, false, true≢false}
 use mathlib.Core.List.{List}
-use mathlib.Core.Logic.{_⊎_, ⊎-elim}
 use Prim.Native.Nat.{ℕ}
 use native.Mathlib.Omega.{arith}
 use Rattle.tables.specs.Marks.{bitSet}
@@ -15,7 +14,7 @@ use Rattle.stream.specs.Cutting.{at, major}
 use Rattle.stream.specs.Filling.{slot, Sampled, Slotted, MajorFilled}
 use Rattle.stream.specs.Once.{OwnMajor, UnmixedMajor}
 use Rattle.stream.proofs.Marking.{Rising}
-use Rattle.stream.proofs.Members.{found, In, Among, among-all, every-in, in-every, some-in, in-some, each, once-in, unique, those-in, in-those}
+use Rattle.stream.proofs.Members.{In, Among, among-all, every-in, in-every, some-in, one-has, each, once-in, unique, those-in, in-those}
 
 -- the major frames of the kept records rs
 module _ (rs : List Kept) (c : ℕ) (counts : Rising at c rs) where
@@ -24,25 +23,25 @@ module _ (rs : List Kept) (c : ℕ) (counts : Rising at c rs) where
 
   own-slot : (f : Kept) → In f rs → (g : List Kept) (m : ClosedMajor) → MajorFilled g m → Among rs g → OwnMajor f m → In f g
   own-slot f i g m p w o =
-      ⊎-elim (λ (s : Some (λ y. slot y ≡ slot f) g). from s) (λ (n : Every (λ y. slot y ≡ slot f → ⊥) g). absurd (true≢false (sym (o .1) ∙ p .no-slot (slot f) (omega arith) n .unheld))) (found (λ (x : Kept). slot x) (slot f) g)
-    where
-      from : Some (λ y. slot y ≡ slot f) g → In f g
-      from s = in-some (λ y. slot y ≡ slot f) (In f g) g s (λ y j e.
-          let n : major y ≡ major f = sym (every-in (λ f. Slotted f m) g y (p .own) j .number) ∙ o .0 in
-          subst (λ (z : Kept). In z g) (unique at rs c y f counts (w y j) i (omega arith)) j)
+      one-has slot (slot f) g (In f g) (λ n. true≢false (sym (o .1) ∙ p .no-slot (slot f) (omega arith) n .unheld)) (λ y j e.
+      let n : major y ≡ major f = sym (every-in (λ f. Slotted f m) g y (p .own) j .number) ∙ o .0 in
+      subst (λ (z : Kept). In z g) (unique at rs c y f counts (w y j) i (omega arith)) j)
 
   -- what is held comes from its records
   unmixed-slots : (g : List Kept) (m : ClosedMajor) → MajorFilled g m → Among rs g → UnmixedMajor rs m
   unmixed-slots g m p w = record {
     held = λ i l e.
-        ⊎-elim (λ (s : Some (λ y. slot y ≡ i) g). in-some (λ y. slot y ≡ i) (Some (λ f. (slot f ≡ i) × Slotted f m) rs) g s (λ y j z. some-in (λ f. (slot f ≡ i) × Slotted f m) rs y (w y j) (z, stands y j)))
-        (λ (n : Every (λ y. slot y ≡ i → ⊥) g). absurd (true≢false (sym e ∙ p .no-slot i l n .unheld))) (found (λ (x : Kept). slot x) i g);
-    unheld = λ i l e. p .no-slot i l (in-every (λ y. slot y ≡ i → ⊥) g (λ y j z. true≢false (sym (stands y j .held) ∙ ap (λ (n : ℕ). bitSet (m .frame .slots) n) z ∙ e)));
+        let H : Kept → Type 0 = λ f. (slot f ≡ i) × Slotted f m in
+        one-has slot i g (Some H rs) (λ n. true≢false (sym e ∙ p .no-slot i l n .unheld)) (λ y j z. some-in H rs y (w y j) (z, stands y j));
+    unheld = λ i l e.
+        p .no-slot i l (in-every (λ y. slot y ≡ i → ⊥) g (λ y j z.
+        true≢false (sym (stands y j .held) ∙ ap (λ (n : ℕ). bitSet (m .frame .slots) n) z ∙ e)));
     marked = λ i l e.
-        ⊎-elim (λ (s : Some (λ y. slot y ≡ i) (magged g)). in-some (λ y. slot y ≡ i) (Some (λ f. (slot f ≡ i) × (major f ≡ m .frame .number) × Sampled f m) (magged rs)) (magged g) s (λ y j z.
+        let H : Kept → Type 0 = λ f. (slot f ≡ i) × (major f ≡ m .frame .number) × Sampled f m in
+        one-has slot i (magged g) (Some H (magged rs)) (λ n. true≢false (sym e ∙ p .no-mag i l n .unmarked)) (λ y j z.
         let r = those-in hasMag g y j in
-        some-in (λ f. (slot f ≡ i) × (major f ≡ m .frame .number) × Sampled f m) (magged rs) y (in-those hasMag rs y (w y (r .0)) (r .1)) (z, sym (stands y (r .0) .number), stands y (r .0) .mag (r .1))))
-        (λ (n : Every (λ y. slot y ≡ i → ⊥) (magged g)). absurd (true≢false (sym e ∙ p .no-mag i l n .unmarked))) (found (λ (x : Kept). slot x) i (magged g));
+        let s = stands y (r .0) in
+        some-in H (magged rs) y (in-those hasMag rs y (w y (r .0)) (r .1)) (z, sym (s .number), s .mag (r .1)));
     unmarked = λ i l e. p .no-mag i l (in-every (λ y. slot y ≡ i → ⊥) (magged g) (λ y j z.
         let r = those-in hasMag g y j in
         true≢false (sym (stands y (r .0) .mag (r .1) .marked) ∙ ap (λ (n : ℕ). bitSet (m .frame .«mag_slots») n) z ∙ e)));
@@ -52,11 +51,18 @@ module _ (rs : List Kept) (c : ℕ) (counts : Rising at c rs) where
       stands y j = every-in (λ f. Slotted f m) g y (p .own) j
 
   module _ (gs : List (List Kept)) (os : List ClosedMajor) (whole : flat gs ≡ rs) (parts : Pairwise MajorFilled gs os) where
+    all-in : Among rs (flat gs)
+    all-in = among-all rs (flat gs) whole
+
     pub major-once : Every (λ f. ExactlyOne (OwnMajor f) os) rs
-    major-once = in-every _ rs (λ f i. once-in MajorFilled rs (OwnMajor f) f (slot-own f) (own-slot f i) (λ x. at x) gs os c parts (among-all rs (flat gs) whole) (subst⁻¹ (Rising at c) whole counts) (subst⁻¹ (In f) whole i))
+    major-once = in-every _ rs (λ f i.
+        once-in MajorFilled rs (OwnMajor f) f (slot-own f) (own-slot f i) at gs os c parts all-in
+        (subst⁻¹ (Rising at c) whole counts) (subst⁻¹ (In f) whole i))
 
     pub major-slotted : Every (λ f. Every (λ m. OwnMajor f m → Slotted f m) os) rs
-    major-slotted = in-every _ rs (λ f i. each MajorFilled rs (λ m. OwnMajor f m → Slotted f m) (λ g m p w o. every-in (λ f. Slotted f m) g f (p .own) (own-slot f i g m p w o)) gs os parts (among-all rs (flat gs) whole))
+    major-slotted = in-every _ rs (λ f i.
+        each MajorFilled rs (λ m. OwnMajor f m → Slotted f m)
+        (λ g m p w o. every-in (λ f. Slotted f m) g f (p .own) (own-slot f i g m p w o)) gs os parts all-in)
 
     pub majors-unmixed : Every (UnmixedMajor rs) os
-    majors-unmixed = each MajorFilled rs (UnmixedMajor rs) unmixed-slots gs os parts (among-all rs (flat gs) whole)
+    majors-unmixed = each MajorFilled rs (UnmixedMajor rs) unmixed-slots gs os parts all-in

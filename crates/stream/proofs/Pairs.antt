@@ -1,6 +1,6 @@
 -- A cutting of one record, and of two: each by itself, or both together.
 -- Assumes nothing.
-use mathlib.Core.Path.{_≡_, ap, subst}
+use mathlib.Core.Path.{_≡_, ap}
 use mathlib.Core.List.{List, [], _∷_, _++_}
 use mathlib.Core.Logic.{_⊎_, inl, inr}
 use Prim.Native.Nat.{ℕ, suc}
@@ -8,6 +8,7 @@ use native.Mathlib.Omega.{arith}
 use lib.ListN.{length}
 use Rattle.stream.specs.Lists.{flat, Linked, final, Across, Cut}
 use Rattle.stream.specs.Sending.{Kept}
+use Rattle.stream.proofs.Members.{of-both}
 
 heads : (x y p f : Kept) (xs : List Kept) → x ∷ y ∷ xs ≡ p ∷ f ∷ [] → (x ≡ p) × (y ≡ f)
 heads x y p f xs e = (cc, cc)
@@ -39,11 +40,15 @@ module _ (R S : Kept → Kept → Type 0) (p f : Kept) where
   of-two ([] ∷ gs) e c = absurd c
   of-two ((x ∷ []) ∷ []) e c = let y : _≡_ {A = ℕ} 1 2 = ap length e in absurd (omega arith)
   of-two ((x ∷ []) ∷ ([] ∷ gs)) e c = absurd (c .2)
-  of-two ((x ∷ []) ∷ ((y ∷ []) ∷ [])) e c = let h = heads x y p f [] e in inl (record { is = rw (h .0, h .1); related = subst (λ (z : Kept). S z f) (h .0) (subst (S x) (h .1) (c .1)) })
+  of-two ((x ∷ []) ∷ ((y ∷ []) ∷ [])) e c =
+      let h = heads x y p f [] e in
+      inl (record { is = rw (h .0, h .1); related = of-both S x y p f h (c .1) })
   of-two ((x ∷ []) ∷ ((y ∷ []) ∷ ([] ∷ gs))) e c = absurd (c .2 .2)
   of-two ((x ∷ []) ∷ ((y ∷ []) ∷ ((z ∷ zs) ∷ gs))) e c = absurd (long (zs ++ flat gs) (ap length e))
   of-two ((x ∷ []) ∷ ((y ∷ z ∷ zs) ∷ gs)) e c = absurd (long (zs ++ flat gs) (ap length e))
-  of-two ((x ∷ y ∷ []) ∷ []) e c = let h = heads x y p f [] e in inr (record { is = rw (h .0, h .1); related = subst (λ (z : Kept). R z f) (h .0) (subst (R x) (h .1) (c .0 .0)) })
+  of-two ((x ∷ y ∷ []) ∷ []) e c =
+      let h = heads x y p f [] e in
+      inr (record { is = rw (h .0, h .1); related = of-both R x y p f h (c .0 .0) })
   of-two ((x ∷ y ∷ []) ∷ ([] ∷ gs)) e c = absurd (c .2)
   of-two ((x ∷ y ∷ []) ∷ ((z ∷ zs) ∷ gs)) e c = absurd (long (zs ++ flat gs) (ap length e))
   of-two ((x ∷ y ∷ z ∷ zs) ∷ gs) e c = absurd (long (zs ++ flat gs) (ap length e))

@@ -34,7 +34,7 @@ use Rattle.state.proofs.Keeping.{step-sound, never-13, fresh-sound}
 use Rattle.reader.specs.Buffers.{Buffers, sizedBy, sized, copiedBy, clearedBy, cellsAfter, samplesAfter}
 use Rattle.reader.specs.Steps.{input}
 use Rattle.reader.proofs.Lengths.{Sizes, sizes, length-cleared}
-use Rattle.stream.specs.Running.{Call, step, called, run, traceOf, accumulations, majors}
+use Rattle.stream.specs.Running.{Call, Trace, step, called, run, traceOf, accumulations, majors}
 use Rattle.stream.specs.Sending.{sentCount, next, Fate, kept, removed, extra, Sends, fed, ExtraRefused, KeptAccepted, Kept, keptOf}
 use Rattle.stream.proofs.Runs.{answered, finished}
 use Rattle.stream.proofs.Calls.{accumulate, collect, cells-out, samples-out, refused-call, cells-call, samples-call}
@@ -130,6 +130,10 @@ is-accepted : (s : State) (b : Buffers) (r : List ℕ) → numberOf (input s b r
 unfolding called
 is-accepted s b r e = answered (input s b r) ∙ e
 
+-- the calls behind a call, for these records
+abbrev behind : Call → List (List ℕ) → Trace
+behind y rs = run (y .result .state) (y .left) rs
+
 -- nothing more is fed: finish
 ends : (k l c : ℕ) (s : State) (b : Buffers) → Ready s b c → Parts c k l [] s b
 unfolding traceOf fed keptOf KeptAccepted accumulations majors accumulate collect endedOf
@@ -149,11 +153,12 @@ parts (removed r ∷ xs) k l c s b h w q =
     record { accepted = v .accepted; cells = v .cells; samples = v .samples }
 parts (extra x ∷ xs) k l c s b h w q =
     let e = refused-call s b x (q .0) in
-    let v = parts xs k l c s b h w (subst (λ (y : Call). ExtraRefused xs (run (y .result .state) (y .left) (fed xs))) e (q .1)) in
+    let ks = keptOf c k l xs in
+    let v = parts xs k l c s b h w (subst (λ (y : Call). ExtraRefused xs (behind y (fed xs))) e (q .1)) in
     record {
-      accepted = subst⁻¹ (λ (y : Call). KeptAccepted xs (run (y .result .state) (y .left) (fed xs))) e (v .accepted);
-      cells = subst⁻¹ (λ (y : Call). accumulations (step y (run (y .result .state) (y .left) (fed xs))) ≡ accumulate (s .accumulation) (b .openCells) (keptOf c k l xs)) e (v .cells);
-      samples = subst⁻¹ (λ (y : Call). majors (step y (run (y .result .state) (y .left) (fed xs))) ≡ collect (s .major) (b .openSamples) (keptOf c k l xs)) e (v .samples);
+      accepted = subst⁻¹ (λ (y : Call). KeptAccepted xs (behind y (fed xs))) e (v .accepted);
+      cells = subst⁻¹ (λ (y : Call). accumulations (step y (behind y (fed xs))) ≡ accumulate (s .accumulation) (b .openCells) ks) e (v .cells);
+      samples = subst⁻¹ (λ (y : Call). majors (step y (behind y (fed xs))) ≡ collect (s .major) (b .openSamples) ks) e (v .samples);
     }
 parts (kept r ∷ xs) k l c s b h w q =
     let p = w .0 in
@@ -161,9 +166,10 @@ parts (kept r ∷ xs) k l c s b h w q =
     let d = stands-at s b c h r (p .counted) in
     let n = accepts s b r (h .sound) (h .sized) (p .passes) (d .0) in
     let v = parts xs (next k r) l (c + 1) (called s b r .result .state) (called s b r .left) (moves s b r c h (d .1) n) (w .1) q in
-    let t = run (called s b r .result .state) (called s b r .left) (fed xs) in
+    let t = behind (called s b r) (fed xs) in
+    let ks = keptOf (c + 1) (next k r) l xs in
     record {
       accepted = (is-accepted s b r n, v .accepted);
-      cells = cells-call s b x n (d .1) t (keptOf (c + 1) (next k r) l xs) (h .sized .cells) (v .cells);
-      samples = samples-call s b x n (d .1) t (keptOf (c + 1) (next k r) l xs) (h .sized .samples) (v .samples);
+      cells = cells-call s b x n (d .1) t ks (h .sized .cells) (v .cells);
+      samples = samples-call s b x n (d .1) t ks (h .sized .samples) (v .samples);
     }

@@ -32,8 +32,8 @@ use Rattle.state.proofs.Told.{all-pass, passed-size}
 use Rattle.state.proofs.Keeping.{fresh-sound}
 use Rattle.reader.specs.Buffers.{Buffers}
 use Rattle.reader.specs.Steps.{input}
-use Rattle.stream.specs.Running.{Reader, Call, traceOf, called, ClosedAccumulation, accumulationOut, accumulations}
-use Rattle.stream.specs.Lists.{Pairwise, sum, total}
+use Rattle.stream.specs.Running.{Reader, Call, Trace, traceOf, called, ClosedAccumulation, accumulationOut, accumulations}
+use Rattle.stream.specs.Lists.{Pairwise, sum}
 use Rattle.stream.specs.Sending.{Fate, kept, Sends, fed, ExtraRefused, Stream, Kept, keptOf, those, realUnspoiled, KeptAccepted}
 use Rattle.stream.specs.Cutting.{at, typeOf, Joined, Parted}
 use Rattle.stream.specs.Filling.{Filled, packet}
@@ -42,6 +42,7 @@ use Rattle.stream.specs.Once.{cellsFilled, isFilled, hasByte}
 use Rattle.stream.specs.Law.{Keeps, Meets}
 use Rattle.stream.specs.Readers.{RefusesAll, FixedAnswer, StoresNothing, Nods, NeverSaysJoins, NeverJoins, MadeUp, FixedFrames}
 use Rattle.stream.proofs.Counting.{total-none}
+use Rattle.stream.proofs.Filled.{filledIn}
 use Rattle.stream.proofs.Runs.{answered, only-call}
 use Rattle.stream.proofs.Calls.{opening, joining}
 use Rattle.stream.proofs.Parts.{Ready, stands-at, accepts, moves, start}
@@ -91,19 +92,22 @@ module _ (R : Reader) (keeps : Keeps R) where
   is-call : (s : State) (b : Buffers) (r : List ℕ) → R .steps s b r ≡ called s b r
   is-call s b r = only-call s b r (R .steps s b r) (keeps .steps s b r)
 
+  -- its answer to a first record
+  number-is : (r : List ℕ) → answerNumber (R .steps fresh lent r .result .answer) ≡ numberOf (input fresh lent r)
+  unfolding called
+  number-is r = ap (λ (x : Call). answerNumber (x .result .answer)) (is-call fresh lent r) ∙ answered (input fresh lent r)
+
   -- "A reader that refuses everything, and one with a fixed answer, break demand 2's "exactly when""
   accepted-once : answerNumber (R .steps fresh lent (made 100 5) .result .answer) ≡ 0
-  unfolding called
-  accepted-once = ap (λ (x : Call). answerNumber (x .result .answer)) (is-call fresh lent (made 100 5)) ∙ answered (input fresh lent (made 100 5)) ∙ first-passes
+  accepted-once = number-is (made 100 5) ∙ first-passes
 
   pub not-refusing : RefusesAll R → ⊥
   not-refusing h = omega (arith, h fresh lent (made 100 5), accepted-once)
 
   pub not-fixed : (x : Answer) → FixedAnswer R x → ⊥
-  unfolding called
   not-fixed x h =
       let e : answerNumber (R .steps fresh lent [] .result .answer) ≡ 0 = ap answerNumber (h fresh lent [] ∙ sym (h fresh lent (made 100 5))) ∙ accepted-once in
-      let n : numberOf (input fresh lent []) ≡ 0 = sym (answered (input fresh lent [])) ∙ sym (ap (λ (x : Call). answerNumber (x .result .answer)) (is-call fresh lent [])) ∙ e in
+      let n : numberOf (input fresh lent []) ≡ 0 = sym (number-is []) ∙ e in
       let l : length {A = ℕ} [] ≡ 472 = passed-size (input fresh lent []) (all-pass (input fresh lent []) n) in
       omega arith
 
@@ -111,8 +115,11 @@ module _ (R : Reader) (keeps : Keeps R) where
   pub says-joins : NeverSaysJoins R → ⊥
   unfolding second
   says-joins h =
-      let j = joining (now .result .state) (now .left) second second-passes (second-stands .1) (real-six 101) second-joins in
-      h (now .result .state) (now .left) (made 101 6) (record { fields = recordOf (made 101 6); gap = Joins }) (ap (λ (x : Call). x .result .answer) (is-call (now .result .state) (now .left) (made 101 6)) ∙ j) refl
+      let s = now .result .state in
+      let b = now .left in
+      let j = joining s b second second-passes (second-stands .1) (real-six 101) second-joins in
+      h s b (made 101 6) (record { fields = recordOf (made 101 6); gap = Joins })
+      (ap (λ (x : Call). x .result .answer) (is-call s b (made 101 6)) ∙ j) refl
 
 -- the stream of the first record alone, and that of both
 one : List Fate
@@ -138,13 +145,18 @@ out-lent r c d e = go (r .closed)
     go true = (e, tt)
     go false = tt
 
-all-lent : (R : Reader) → StoresNothing R → (rs : List (List ℕ)) (s : State) (b : Buffers) → Every (λ a. a .cells ≡ b .finishedCells) (accumulations (traceOf R s b rs))
+all-lent : (R : Reader) → StoresNothing R → (rs : List (List ℕ)) (s : State) (b : Buffers)
+    → Every (λ a. a .cells ≡ b .finishedCells) (accumulations (traceOf R s b rs))
 unfolding traceOf accumulations
-all-lent R h [] s b = out-lent (R .finishes s b .result .closed .accumulation) (R .finishes s b .left .finishedCells) (b .finishedCells) (ap (λ (x : Buffers). x .finishedCells) (h .finishes s b))
+all-lent R h [] s b =
+    let x = R .finishes s b in
+    out-lent (x .result .closed .accumulation) (x .left .finishedCells) (b .finishedCells) (ap (λ (y : Buffers). y .finishedCells) (h .finishes s b))
 all-lent R h (r ∷ rs) s b =
+    let x = R .steps s b r in
     every-joined (λ a. a .cells ≡ b .finishedCells) _ _
-    (out-lent (R .steps s b r .result .closed .accumulation) (R .steps s b r .left .finishedCells) (b .finishedCells) (ap (λ (x : Buffers). x .finishedCells) (h .steps s b r)))
-    (subst⁻¹ (λ (x : Buffers). Every (λ a. a .cells ≡ b .finishedCells) (accumulations (traceOf R (R .steps s b r .result .state) x rs))) (h .steps s b r) (all-lent R h rs (R .steps s b r .result .state) b))
+    (out-lent (x .result .closed .accumulation) (x .left .finishedCells) (b .finishedCells) (ap (λ (y : Buffers). y .finishedCells) (h .steps s b r)))
+    (subst⁻¹ (λ (y : Buffers). Every (λ a. a .cells ≡ b .finishedCells) (accumulations (traceOf R (x .result .state) y rs))) (h .steps s b r)
+    (all-lent R h rs (x .result .state) b))
 
 -- no cell of 0 has a byte of the first record, whose bytes are 1
 science-ones : (k : ℕ) → k < 83 → getD (scienceBytes (packet first)) k 0 ≡ 1
@@ -157,17 +169,30 @@ no-byte a p e l =
     let z : getD (a .cells) p 0 ≡ 0 = ap (λ (c : List ℕ). getD c p 0) e ∙ getD-replicate {A = ℕ} cellsSize p 0 0 (omega arith) in
     rw (z, science-ones (byteOf p) (once p l .is-byte), and-false (eqb (typeOf first) (carrier p))) (and-false (holdsCell (a .report .held) p))
 
-none-filled : (os : List ClosedAccumulation) → Every (λ a. a .cells ≡ lent .finishedCells) os → sum (λ a. total (λ p. cond (isFilled (first ∷ []) a p) 1 0) cells) os ≡ 0
+none-filled : (os : List ClosedAccumulation) → Every (λ a. a .cells ≡ lent .finishedCells) os → sum (filledIn (first ∷ [])) os ≡ 0
 unfolding Every sum
 none-filled [] h = refl
 none-filled (a ∷ os) h = omega (arith, total-none (λ p. cond (isFilled (first ∷ []) a p) 1 0) cells (λ p l. rw (no-byte a p (h .0) l)), none-filled os (h .1))
 
 module _ (R : Reader) where
-  stream-one : Stream 100 5 one lent (traceOf R fresh lent (fed one))
+  -- their traces, and what is handed out
+  abbrev traceOne : Trace
+  traceOne = traceOf R fresh lent (fed one)
+
+  abbrev traceBoth : Trace
+  traceBoth = traceOf R fresh lent (fed pair)
+
+  abbrev outOne : List ClosedAccumulation
+  outOne = accumulations traceOne
+
+  abbrev outBoth : List ClosedAccumulation
+  outBoth = accumulations traceBoth
+
+  stream-one : Stream 100 5 one lent traceOne
   unfolding one Sends fed ExtraRefused traceOf
   stream-one = record { sent = (sent-five 100 5 (omega arith) (omega arith) refl, tt); right = lent-sized; refused = tt }
 
-  stream-both : Stream 100 5 pair lent (traceOf R fresh lent (fed pair))
+  stream-both : Stream 100 5 pair lent traceBoth
   unfolding pair Sends fed ExtraRefused traceOf
   stream-both = record {
     sent = (sent-five 100 5 (omega arith) (omega arith) refl, (rw (real-five 100) (sent-six 101 6 (omega arith) (omega arith) refl), tt));
@@ -176,10 +201,10 @@ module _ (R : Reader) where
   }
 
   module _ (meets : Meets R) where
-    cells-one : cellsListed (traceOf R fresh lent (fed one)) ≡ 83
+    cells-one : cellsListed traceOne ≡ 83
     cells-one = meets one lent 100 5 stream-one .0 .cells-sum ∙ ap (λ (g : List Kept). 83 * length g) real-one
 
-    cells-both : cellsListed (traceOf R fresh lent (fed pair)) ≡ 166
+    cells-both : cellsListed traceBoth ≡ 166
     cells-both = meets pair lent 100 5 stream-both .0 .cells-sum ∙ ap (λ (g : List Kept). 83 * length g) real-both
 
     -- "Made-up frame or cell counts break 3, since they are counted from the records fed"
@@ -191,9 +216,12 @@ module _ (R : Reader) where
     unfolding one fed traceOf KeptAccepted
     first-accepted = meets one lent 100 5 stream-one .0 .accepted .0
 
-    nodded : Nods R → accumulations (traceOf R fresh lent (fed pair)) ≡ accumulations (traceOf R fresh lent (fed one))
+    nodded : Nods R → outBoth ≡ outOne
     unfolding one pair fed traceOf accumulations
-    nodded h = rw (h .closes lent (made 100 5) (made 101 6) first-accepted, h .state lent (made 100 5) (made 101 6) first-accepted, h .left lent (made 100 5) (made 101 6) first-accepted)
+    nodded h =
+        let p = made 100 5 in
+        let q = made 101 6 in
+        rw (h .closes lent p q first-accepted, h .state lent p q first-accepted, h .left lent p q first-accepted)
 
     pub not-nodding : Nods R → ⊥
     not-nodding h = omega (arith, cells-one, cells-both, ap (λ (os : List ClosedAccumulation). sum (λ a. cellsHeld (a .report)) os) (nodded h))
@@ -210,7 +238,8 @@ module _ (R : Reader) where
     not-never-joining h =
         let d = meets pair lent 100 5 stream-both .0 in
         ⊎-elim (λ (s : Split Joined Parted first second (d .parts)). omega (arith, s .related refl))
-        (λ (w : Whole Joined Parted first second (d .parts)). not-both (accumulations (traceOf R fresh lent (fed pair))) (h lent (fed pair)) (subst (λ (gs : List (List Kept)). Pairwise Filled gs (accumulations (traceOf R fresh lent (fed pair)))) (w .is) (d .parts-out)))
+        (λ (w : Whole Joined Parted first second (d .parts)).
+        not-both outBoth (h lent (fed pair)) (subst (λ (gs : List (List Kept)). Pairwise Filled gs outBoth) (w .is) (d .parts-out)))
         (of-two Joined Parted first second (d .parts) (d .parts-whole ∙ real-both) (d .parts-cut))
 
     -- "Made-up frame ... counts": the first alone has one frame, both have two
@@ -224,14 +253,20 @@ module _ (R : Reader) where
     unfolding first second
     not-fixed-frames n h =
         let d = meets one lent 100 5 stream-one .0 in
-        let x = frames-in (first ∷ []) n (accumulations (traceOf R fresh lent (fed one))) (h lent (fed one)) (subst (λ (gs : List (List Kept)). Pairwise Filled gs (accumulations (traceOf R fresh lent (fed one)))) (of-one Joined Parted first (d .parts) (d .parts-whole ∙ real-one) (d .parts-cut)) (d .parts-out)) in
+        let cut = of-one Joined Parted first (d .parts) (d .parts-whole ∙ real-one) (d .parts-cut) in
+        let alone = subst (λ (gs : List (List Kept)). Pairwise Filled gs outOne) cut (d .parts-out) in
+        let x = frames-in (first ∷ []) n outOne (h lent (fed one)) alone in
         let e = meets pair lent 100 5 stream-both .0 in
         ⊎-elim (λ (s : Split Joined Parted first second (e .parts)). omega (arith, s .related refl))
-        (λ (w : Whole Joined Parted first second (e .parts)). omega (arith, x, frames-in (first ∷ second ∷ []) n (accumulations (traceOf R fresh lent (fed pair))) (h lent (fed pair)) (subst (λ (gs : List (List Kept)). Pairwise Filled gs (accumulations (traceOf R fresh lent (fed pair)))) (w .is) (e .parts-out))))
+        (λ (w : Whole Joined Parted first second (e .parts)).
+        let both = subst (λ (gs : List (List Kept)). Pairwise Filled gs outBoth) (w .is) (e .parts-out) in
+        omega (arith, x, frames-in (first ∷ second ∷ []) n outBoth (h lent (fed pair)) both))
         (of-two Joined Parted first second (e .parts) (e .parts-whole ∙ real-both) (e .parts-cut))
 
     -- "One that accepts and stores nothing breaks ... demand 3's total": no cell is filled, since what it hands out was lent
     pub not-idle : StoresNothing R → ⊥
     not-idle h =
         let o = meets one lent 100 5 stream-one .1 in
-        omega (arith, o .filled ∙ ap (λ (g : List Kept). 83 * length g) real-one, ap (λ (g : List Kept). cellsFilled g (traceOf R fresh lent (fed one))) real-one, none-filled (accumulations (traceOf R fresh lent (fed one))) (all-lent R h (fed one) fresh lent))
+        let cells = o .filled ∙ ap (λ (g : List Kept). 83 * length g) real-one in
+        let same = ap (λ (g : List Kept). cellsFilled g traceOne) real-one in
+        omega (arith, cells, same, none-filled outOne (all-lent R h (fed one) fresh lent))

@@ -46,7 +46,10 @@ openWith g p o = record { first = firstCount g; held = marksFrom typeOf 0 g; «l
 module _ (h : Kept) (t : List Kept) (p : Kept) (o : ℕ) where
   is-open : isOpen (openWith (h ∷ t) p o) ≡ true
   unfolding marksFrom marked
-  is-open = rw (ne-eqb (marksFrom typeOf (0 + 2 ^ typeOf h) t) 0 (λ z. omega (arith, marks-some typeOf t (0 + 2 ^ typeOf h) (omega (arith, pow-pos (typeOf h))))))
+  is-open =
+      let m = 0 + 2 ^ typeOf h in
+      let some : 0 < marksFrom typeOf m t = marks-some typeOf t m (omega (arith, pow-pos (typeOf h))) in
+      rw (ne-eqb (marksFrom typeOf m t) 0 (λ z. omega (arith, some)))
 
   closes : closing (openWith (h ∷ t) p o) (cellsFrom noCells (h ∷ t)) ≡ outOf (h ∷ t) ∷ []
   unfolding closing outOf
@@ -89,22 +92,28 @@ module _ (g : List Kept) (p f : Kept) (o c k l : ℕ) (t : Ties p o c k l) (n : 
       few = omega (arith, type-is, gap-is)
 
       go : (b : Bool) → leb (gap (openWith g p o) (at f)) (most (typeOf p) (typeOf f)) ≡ b → most (typeOf p) (typeOf f) < lostBetween p f
-      go true q = absurd (true≢false (sym (rw (i, lt-ltb (typeOf p) (typeOf f) rises, le-leb (fewest (typeOf p) (typeOf f)) (gap (openWith g p o) (at f)) few, q) refl) ∙ e))
+      go true q =
+          let u = lt-ltb (typeOf p) (typeOf f) rises in
+          let v = le-leb (fewest (typeOf p) (typeOf f)) (gap (openWith g p o) (at f)) few in
+          absurd (true≢false (sym (rw (i, u, v, q) refl) ∙ e))
       go false q = omega (arith, leb-false (gap (openWith g p o) (at f)) (most (typeOf p) (typeOf f)) q, gap-is)
 
 -- after a real-time record, after an other one
 ties-real : (f : Kept) (c k l : ℕ) → Next c k l f → realTime (f .bytes) ≡ true → Ties f 0 (at f + 1) (next (f .serial) (f .bytes)) (f .lost)
 ties-real f c k l n e = rw e (record { before = omega arith; lost = omega arith; account = omega arith; between = omega arith; typed = n .typed e })
 
-ties-other : (p f : Kept) (o c k l : ℕ) → Ties p o c k l → Next c k l f → realTime (f .bytes) ≡ false → Ties p (o + 1) (at f + 1) (next (f .serial) (f .bytes)) (f .lost)
+ties-other : (p f : Kept) (o c k l : ℕ) → Ties p o c k l → Next c k l f → realTime (f .bytes) ≡ false
+    → Ties p (o + 1) (at f + 1) (next (f .serial) (f .bytes)) (f .lost)
 ties-other p f o c k l t n e = rw e (record { before = omega arith; lost = omega arith; account = omega arith; between = omega arith; typed = t .typed })
 
 module _ (x : Kept) (xs : List Kept) (real : realTime (x .bytes) ≡ true) where
-  accumulate-join : (a : Accumulation) (c : List ℕ) → joins a (typeOf x) (at x) ≡ true → accumulate a c (x ∷ xs) ≡ accumulate (joined a (typeOf x) (at x)) (cellsWith x c) xs
+  accumulate-join : (a : Accumulation) (c : List ℕ) → joins a (typeOf x) (at x) ≡ true
+      → accumulate a c (x ∷ xs) ≡ accumulate (joined a (typeOf x) (at x)) (cellsWith x c) xs
   unfolding accumulate
   accumulate-join a c j = rw (real, j)
 
-  accumulate-open : (a : Accumulation) (c : List ℕ) → joins a (typeOf x) (at x) ≡ false → accumulate a c (x ∷ xs) ≡ closing a c ++ accumulate (openWith (x ∷ []) x 0) (cellsFrom noCells (x ∷ [])) xs
+  accumulate-open : (a : Accumulation) (c : List ℕ) → joins a (typeOf x) (at x) ≡ false
+      → accumulate a c (x ∷ xs) ≡ closing a c ++ accumulate (openWith (x ∷ []) x 0) (cellsFrom noCells (x ∷ [])) xs
   unfolding accumulate marksFrom cellsFrom marked
   accumulate-open a c j = rw (real, j, zero-add)
 
@@ -121,7 +130,8 @@ told : (xs : List Kept) (h : Kept) (t : List Kept) (p : Kept) (o c k l : ℕ) �
 unfolding accumulate those Chain
 told [] h t p o c k l e w = rw (closes h t p o) (told-end Joined Parted outOf h t p)
 told (x ∷ xs) h t p o c k l e w =
-    go (realTime (x .bytes)) (joins (openWith (h ∷ t) p o) (typeOf x) (at x)) refl refl (λ h t p o e. told xs h t p o (at x + 1) (next (x .serial) (x .bytes)) (x .lost) e (w .1))
+    go (realTime (x .bytes)) (joins (openWith (h ∷ t) p o) (typeOf x) (at x)) refl refl
+    (λ h t p o e. told xs h t p o (at x + 1) (next (x .serial) (x .bytes)) (x .lost) e (w .1))
   where
     n : Next c k l x
     n = w .0
@@ -130,14 +140,20 @@ told (x ∷ xs) h t p o c k l e w =
         → ((h : Kept) (t : List Kept) (p : Kept) (o : ℕ) → Ties p o (at x + 1) (next (x .serial) (x .bytes)) (x .lost) → From h t p o xs)
         → From h t p o (x ∷ xs)
     go false b r j ih =
-        rw (those-same isReal x xs r, accumulate-pass x xs r (openWith (h ∷ t) p o) (cellsFrom noCells (h ∷ t)), is-open h t p o)
-        (ih h t p (o + 1) (ties-other p x o c k l e n r))
+        let a = openWith (h ∷ t) p o in
+        let d = cellsFrom noCells (h ∷ t) in
+        rw (those-same isReal x xs r, accumulate-pass x xs r a d, is-open h t p o) (ih h t p (o + 1) (ties-other p x o c k l e n r))
     go true true r j ih =
-        rw (those-more isReal x xs r, accumulate-join x xs r (openWith (h ∷ t) p o) (cellsFrom noCells (h ∷ t)) j, ← marks-more typeOf (h ∷ t) 0 x, ← cells-more (h ∷ t) noCells x)
+        let a = openWith (h ∷ t) p o in
+        let d = cellsFrom noCells (h ∷ t) in
+        rw (those-more isReal x xs r, accumulate-join x xs r a d j, ← marks-more typeOf (h ∷ t) 0 x, ← cells-more (h ∷ t) noCells x)
         (told-joined Joined Parted outOf h t p x (reals xs) _ (joined-so (h ∷ t) p x o c k l e n r j) (ih h (t ++ (x ∷ [])) x 0 (ties-real x c k l n r)))
     go true false r j ih =
-        rw (those-more isReal x xs r, accumulate-open x xs r (openWith (h ∷ t) p o) (cellsFrom noCells (h ∷ t)) j, closes h t p o)
-        (told-opened Joined Parted outOf h t p x (reals xs) _ (torn-so (h ∷ t) p x o c k l e n r (is-open h t p o) j) (ih x [] x 0 (ties-real x c k l n r)))
+        let a = openWith (h ∷ t) p o in
+        let d = cellsFrom noCells (h ∷ t) in
+        let torn = torn-so (h ∷ t) p x o c k l e n r (is-open h t p o) j in
+        rw (those-more isReal x xs r, accumulate-open x xs r a d j, closes h t p o)
+        (told-opened Joined Parted outOf h t p x (reals xs) _ torn (ih x [] x 0 (ties-real x c k l n r)))
 
 -- from nothing open: the accumulations handed out are some cutting of the kept real-time records
 abbrev pub Rounds : List ℕ → List Kept → Type 0

@@ -48,7 +48,8 @@ unfolding majorFrom majorWith into marksFrom those
 mags-are [] m = refl
 mags-are (f ∷ fs) m = mags-are fs (majorWith f m) ∙ go (hasMag f)
   where
-    go : (t : Bool) → marksFrom slot (cond t (marked (m .«mag_slots») (slot f)) (m .«mag_slots»)) (magged fs) ≡ marksFrom slot (m .«mag_slots») (cond t (f ∷ magged fs) (magged fs))
+    go : (t : Bool) → marksFrom slot (cond t (marked (m .«mag_slots») (slot f)) (m .«mag_slots»)) (magged fs)
+        ≡ marksFrom slot (m .«mag_slots») (cond t (f ∷ magged fs) (magged fs))
     go true = refl
     go false = refl
 
@@ -75,13 +76,20 @@ ranges-stay (f ∷ fs) m i n = go (hasMag f) refl (λ k. ranges-stay fs (majorWi
         r (k .1) ∙ rw e (getD-set-other (m .ranges) (slot f) i (range (magBytes (packet f))) 0 (λ e. k .0 (sym e)))
     go false e r = r (rw e at n) ∙ rw e
 
+-- sample k of slot i
+abbrev sampleAt : List ℤ → ℕ → ℕ → ℤ
+sampleAt s i k = getD s (samplesSize * i + k) (pos 0)
+
 -- 54 samples laid into a slot
 module _ (f : Kept) (s : List ℤ) (e : length s ≡ frameSamples) where
   abbrev own : List ℤ
   own = samples (magBytes (packet f))
 
+  size : length own ≡ samplesSize
+  size = length-build (sample (magBytes (packet f))) samplesSize
+
   fits : samplesSize * slot f + length own ≤ length s
-  fits = rw (length-build (sample (magBytes (packet f))) samplesSize) (omega arith)
+  fits = rw size (omega arith)
 
   laid-length : length (samplesWith f s) ≡ frameSamples
   unfolding samplesWith
@@ -91,31 +99,32 @@ module _ (f : Kept) (s : List ℤ) (e : length s ≡ frameSamples) where
       go true = length-patch s (samplesSize * slot f) own fits ∙ e
       go false = e
 
-  laid-own : (k : ℕ) → hasMag f ≡ true → k < samplesSize → getD (samplesWith f s) (samplesSize * slot f + k) (pos 0) ≡ sample (magBytes (packet f)) k
+  laid-own : (k : ℕ) → hasMag f ≡ true → k < samplesSize → sampleAt (samplesWith f s) (slot f) k ≡ sample (magBytes (packet f)) k
   unfolding samplesWith
-  laid-own k r h = rw r (patch-in s (samplesSize * slot f) own fits k (pos 0) (rw (length-build (sample (magBytes (packet f))) samplesSize) h) ∙ getD-build (sample (magBytes (packet f))) samplesSize k (pos 0) h)
+  laid-own k r h =
+      rw r (patch-in s (samplesSize * slot f) own fits k (pos 0) (rw size h) ∙ getD-build (sample (magBytes (packet f))) samplesSize k (pos 0) h)
 
-  laid-other : (i k : ℕ) → (hasMag f ≡ true → slot f ≡ i → ⊥) → k < samplesSize → getD (samplesWith f s) (samplesSize * i + k) (pos 0) ≡ getD s (samplesSize * i + k) (pos 0)
+  laid-other : (i k : ℕ) → (hasMag f ≡ true → slot f ≡ i → ⊥) → k < samplesSize → sampleAt (samplesWith f s) i k ≡ sampleAt s i k
   unfolding samplesWith
   laid-other i k n h = go (hasMag f) refl (ltb i (slot f)) refl
     where
-      size : length own ≡ samplesSize
-      size = length-build (sample (magBytes (packet f))) samplesSize
-
-      go : (t : Bool) → hasMag f ≡ t → (b : Bool) → ltb i (slot f) ≡ b → getD (cond t (patch s (samplesSize * slot f) own) s) (samplesSize * i + k) (pos 0) ≡ getD s (samplesSize * i + k) (pos 0)
+      go : (t : Bool) → hasMag f ≡ t → (b : Bool) → ltb i (slot f) ≡ b
+          → sampleAt (cond t (patch s (samplesSize * slot f) own) s) i k ≡ sampleAt s i k
       go false t b q = refl
       go true t true q = patch-left s (samplesSize * slot f) own fits (samplesSize * i + k) (pos 0) (omega (arith, ltb-true i (slot f) q))
       go true t false q =
           let d : slot f ≡ i → ⊥ = n t in
           patch-right s (samplesSize * slot f) own fits (samplesSize * i + k) (pos 0) (omega (arith, ltb-false i (slot f) q, size))
 
-samples-stay : (fs : List Kept) (s : List ℤ) (i k : ℕ) → length s ≡ frameSamples → Free slot i (magged fs) → k < samplesSize → getD (samplesFrom s fs) (samplesSize * i + k) (pos 0) ≡ getD s (samplesSize * i + k) (pos 0)
+samples-stay : (fs : List Kept) (s : List ℤ) (i k : ℕ) → length s ≡ frameSamples → Free slot i (magged fs) → k < samplesSize
+    → sampleAt (samplesFrom s fs) i k ≡ sampleAt s i k
 unfolding samplesFrom Every those
 samples-stay [] s i k e n h = refl
 samples-stay (f ∷ fs) s i k e n h = go (hasMag f) refl (λ q. samples-stay fs (samplesWith f s) i k (laid-length f s e) q h)
   where
-    go : (t : Bool) → hasMag f ≡ t → (Free slot i (magged fs) → getD (samplesFrom (samplesWith f s) fs) (samplesSize * i + k) (pos 0) ≡ getD (samplesWith f s) (samplesSize * i + k) (pos 0))
-        → getD (samplesFrom (samplesWith f s) fs) (samplesSize * i + k) (pos 0) ≡ getD s (samplesSize * i + k) (pos 0)
+    go : (t : Bool) → hasMag f ≡ t
+        → (Free slot i (magged fs) → sampleAt (samplesFrom (samplesWith f s) fs) i k ≡ sampleAt (samplesWith f s) i k)
+        → sampleAt (samplesFrom (samplesWith f s) fs) i k ≡ sampleAt s i k
     go true t r = let q : Free slot i (f ∷ magged fs) = rw t at n in r (q .1) ∙ laid-other f s e i k (λ z. q .0) h
     go false t r = r (rw t at n) ∙ laid-other f s e i k (λ z. absurd (false≢true (sym t ∙ z))) h
 
@@ -167,10 +176,11 @@ module _ (f : Kept) (fs : List Kept) (n low : ℕ) (m : Major) (s : List ℤ) (b
   unfolding majorFrom samplesFrom
   first-sampled real =
       let r : Rising slot low (f ∷ magged fs) = subst (Rising slot low) (those-more hasMag f fs real) (rising-those hasMag slot (f ∷ fs) low (b .rising)) in
+      let others : Free slot (slot f) (magged fs) = every-those hasMag _ fs free in
       record {
         marked = rw (mags-are (f ∷ fs) m, those-more hasMag f fs real) (marks-first slot f (magged fs) low (m .«mag_slots») (b .mags) r);
-        ranged = ranges-stay fs (majorWith f m) (slot f) (every-those hasMag _ fs free) ∙ own-range real;
-        samples = λ k h. samples-stay fs (samplesWith f s) (slot f) k (laid-length f s (b .samples)) (every-those hasMag _ fs free) h ∙ laid-own f s (b .samples) k real h;
+        ranged = ranges-stay fs (majorWith f m) (slot f) others ∙ own-range real;
+        samples = λ k h. samples-stay fs (samplesWith f s) (slot f) k (laid-length f s (b .samples)) others h ∙ laid-own f s (b .samples) k real h;
       }
 
   first-slotted : Slotted f (over m s (f ∷ fs))
@@ -225,6 +235,8 @@ major-filled f fs l =
       no-mag = λ i h n. record {
         unmarked = rw (mags-are g noMajor) (marks-stay slot (magged g) 0 0 i (pow-pos 0) (rising-those hasMag slot g 0 r) n ∙ bits-above 0 i (pow-pos i));
         ranged = ranges-stay g noMajor i n ∙ getD-replicate {A = ℕ} 16 i 0 0 h;
-        samples = λ k j. samples-stay g noSamples i k (b .samples) n j ∙ getD-replicate {A = ℤ} frameSamples (samplesSize * i + k) (pos 0) (pos 0) (omega arith);
+        samples = λ k j.
+            samples-stay g noSamples i k (b .samples) n j
+            ∙ getD-replicate {A = ℤ} frameSamples (samplesSize * i + k) (pos 0) (pos 0) (omega arith);
       };
     }

@@ -1,20 +1,18 @@
 -- Numbers summed over what is handed out are those of the records in it.
 -- Assumes nothing.
 use mathlib.Core.Path.{_≡_, refl, sym, ap, _∙_}
-use mathlib.Core.Bool.{cond}
 use mathlib.Core.List.{List, [], _∷_, _++_}
 use Prim.Native.Nat.{ℕ, _+_, _*_}
 use native.Mathlib.Omega.{arith}
 use lib.ListN.{length, length-append}
 use Rattle.mag.specs.Samples.{samplesSize}
-use Rattle.carriage.specs.Carriage.{scienceSize, cells}
-use Rattle.cells.specs.Raw.{holdsCell}
+use Rattle.carriage.specs.Carriage.{scienceSize}
 use Rattle.listing.specs.Lines.{cellsHeld, slotsHeld, samplesHeld}
-use Rattle.stream.specs.Lists.{Pairwise, flat, sum, total}
+use Rattle.stream.specs.Lists.{Pairwise, flat, sum}
 use Rattle.stream.specs.Running.{ClosedAccumulation, ClosedMajor}
 use Rattle.stream.specs.Sending.{Kept, those, hasMag, magged}
 use Rattle.stream.specs.Filling.{Filled, MajorFilled}
-use Rattle.stream.proofs.Counting.{cells-held}
+use Rattle.stream.proofs.Counting.{cellsIn, cells-held}
 use Rattle.stream.proofs.Those.{those-append}
 
 -- w counts the records of a list
@@ -42,9 +40,9 @@ module _ (gs : List (List Kept)) where
       refl (λ g h. omega (arith, length-append g h)) (λ g a f. ap (λ (n : ℕ). scienceSize * n) (f .frames)) gs
 
   -- and the cells filled
-  pub filled-total : (os : List ClosedAccumulation) → Pairwise Filled gs os → sum (λ a. total (λ p. cond (holdsCell (a .report .held) p) 1 0) cells) os ≡ scienceSize * length (flat gs)
+  pub filled-total : (os : List ClosedAccumulation) → Pairwise Filled gs os → sum (λ a. cellsIn (a .report .held)) os ≡ scienceSize * length (flat gs)
   filled-total =
-      sum-is Filled (λ a. total (λ p. cond (holdsCell (a .report .held) p) 1 0) cells) (λ g. scienceSize * length g)
+      sum-is Filled (λ a. cellsIn (a .report .held)) (λ g. scienceSize * length g)
       refl (λ g h. omega (arith, length-append g h)) (λ g a f. cells-held (a .report .held) (f .among) ∙ ap (λ (n : ℕ). scienceSize * n) (f .frames)) gs
 
   module _ (os : List ClosedMajor) (h : Pairwise MajorFilled gs os) where

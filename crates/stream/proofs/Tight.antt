@@ -36,10 +36,13 @@ neither P Q (x ∷ xs) e (inr s) = neither P Q xs (e .1) s
 none-below : (n : ℕ) → n < tears → TornBy n → ⊥
 none-below n h t =
     let rs = realUnspoiled (t .count) (t .serial) (t .fates) in
+    let ks = unspoiled (t .count) (t .serial) (t .fates) in
     let tr = run fresh (t .lent) (fed (t .fates)) in
+    let P : ClosedAccumulation → Type 0 = Own rs (t .before) in
+    let Q : ClosedAccumulation → Type 0 = Own rs (t .after) in
     let o = once-each (t .fates) (t .lent) (t .count) (t .serial) tr (t .stream) (run-allowed (fed (t .fates)) fresh (t .lent)) in
-    ⊎-elim (λ (s : Some (λ a. Own rs (t .before) a × Own rs (t .after) a) (accumulations tr)). neither (Own rs (t .before)) (Own rs (t .after)) (accumulations tr) (t .apart) s)
-    (λ (s : tears ≤ unaccepted (unspoiled (t .count) (t .serial) (t .fates)) (at (t .before)) (at (t .after))). omega (arith, t .lost))
+    ⊎-elim (λ (s : Some (λ a. P a × Q a) (accumulations tr)). neither P Q (accumulations tr) (t .apart) s)
+    (λ (s : tears ≤ unaccepted ks (at (t .before)) (at (t .after))). omega (arith, t .lost))
     (o .torn (t .before) (t .after) (t .neighbours) (t .one-round))
 
 -- n other records from count c on, none of them kept
@@ -76,12 +79,18 @@ lose-fed zero c xs = refl
 lose-fed (suc n) c xs = lose-fed n (c + 1) xs
 
 -- type 5 at count 100, then 36 that are lost, then type 6 at count 137
+abbrev behind : List Fate
+behind = kept (made 137 6) ∷ []
+
 stream : List Fate
-stream = kept (made 100 5) ∷ lose 101 36 (kept (made 137 6) ∷ [])
+stream = kept (made 100 5) ∷ lose 101 36 behind
 
 sent : Sends 100 5 stream
 unfolding stream Sends
-sent = (sent-five 100 5 (omega arith) (omega arith) refl, rw (real-five 100) (lose-sent 36 101 6 _ (omega arith) (omega arith) (sent-six 137 6 (omega arith) (omega arith) refl, tt)))
+sent = (
+  sent-five 100 5 (omega arith) (omega arith) refl,
+  rw (real-five 100) (lose-sent 36 101 6 behind (omega arith) (omega arith) (sent-six 137 6 (omega arith) (omega arith) refl, tt)),
+)
 
 before : Kept
 before = record { bytes = made 100 5; count = 100; serial = 5; lost = 0 }
@@ -89,13 +98,23 @@ before = record { bytes = made 100 5; count = 100; serial = 5; lost = 0 }
 after : Kept
 after = record { bytes = made 137 6; count = 137; serial = 6; lost = 36 }
 
-are-kept : realUnspoiled 100 5 stream ≡ before ∷ after ∷ []
-unfolding stream keptOf those before after
-are-kept = rw (real-five 100, lose-kept 36 101 6 0 (kept (made 137 6) ∷ []), real-six 137)
+-- its kept real-time records, its trace, and what is handed out
+abbrev left : List Kept
+left = realUnspoiled 100 5 stream
 
-fed-stream : Stream 100 5 stream lent (run fresh lent (fed stream))
+abbrev ran : Trace
+ran = run fresh lent (fed stream)
+
+abbrev out : List ClosedAccumulation
+out = accumulations ran
+
+are-kept : left ≡ before ∷ after ∷ []
+unfolding stream keptOf those before after
+are-kept = rw (real-five 100, lose-kept 36 101 6 0 behind, real-six 137)
+
+fed-stream : Stream 100 5 stream lent ran
 unfolding stream ExtraRefused traceOf fed
-fed-stream = record { sent = sent; right = lent-sized; refused = rw (lose-fed 36 101 (kept (made 137 6) ∷ [])) (lose-refused 36 101 (kept (made 137 6) ∷ []) _ tt) }
+fed-stream = record { sent = sent; right = lent-sized; refused = rw (lose-fed 36 101 behind) (lose-refused 36 101 behind _ tt) }
 
 type-before : typeOf before ≡ 5
 unfolding before
@@ -111,11 +130,13 @@ unfolding before after
 far j = omega (arith, j .near, type-before, type-after)
 
 -- an accumulation of the one alone hasn't the type of the other
-alone : (p f : Kept) (a : ClosedAccumulation) → typeOf f < types → (typeOf p ≡ typeOf f → ⊥) → Filled (p ∷ []) a → bitSet (a .report .held) (typeOf f) ≡ true → ⊥
+alone : (p f : Kept) (a : ClosedAccumulation) → typeOf f < types → (typeOf p ≡ typeOf f → ⊥) → Filled (p ∷ []) a
+    → bitSet (a .report .held) (typeOf f) ≡ true → ⊥
 unfolding Every
 alone p f a h n q e = true≢false (sym e ∙ q .others (typeOf f) h (n, tt) .unheld)
 
-apart : (rs : List Kept) (os : List ClosedAccumulation) → Pairwise Filled ((before ∷ []) ∷ (after ∷ []) ∷ []) os → Every (λ a. Own rs before a → Own rs after a → ⊥) os
+apart : (rs : List Kept) (os : List ClosedAccumulation) → Pairwise Filled ((before ∷ []) ∷ (after ∷ []) ∷ []) os
+    → Every (λ a. Own rs before a → Own rs after a → ⊥) os
 unfolding Pairwise Every
 apart rs [] h = absurd h
 apart rs (a ∷ []) h = absurd (h .1)
@@ -125,19 +146,24 @@ apart rs (a ∷ b ∷ []) h = (
 )
 apart rs (a ∷ b ∷ c ∷ os) h = absurd (h .1 .1)
 
-stands-apart : Every (λ a. Own (realUnspoiled 100 5 stream) before a → Own (realUnspoiled 100 5 stream) after a → ⊥) (accumulations (run fresh lent (fed stream)))
+stands-apart : Every (λ a. Own left before a → Own left after a → ⊥) out
 stands-apart =
-    let d = demand-3 stream lent 100 5 (run fresh lent (fed stream)) fed-stream (run-allowed (fed stream) fresh lent) in
-    ⊎-elim (λ (s : Split Joined Parted before after (d .parts)). apart (realUnspoiled 100 5 stream) _ (subst (λ (gs : List (List Kept)). Pairwise Filled gs (accumulations (run fresh lent (fed stream)))) (s .is) (d .parts-out)))
+    let d = demand-3 stream lent 100 5 ran fed-stream (run-allowed (fed stream) fresh lent) in
+    ⊎-elim
+    (λ (s : Split Joined Parted before after (d .parts)).
+    apart left out (subst (λ (gs : List (List Kept)). Pairwise Filled gs out) (s .is) (d .parts-out)))
     (λ (s : Whole Joined Parted before after (d .parts)). absurd (far (s .related)))
     (of-two Joined Parted before after (d .parts) (d .parts-whole ∙ are-kept) (d .parts-cut))
 
+neighbours : Neighbours before after left
+unfolding Neighbours
+neighbours = subst⁻¹ (Neighbours before after) are-kept (inl (refl, refl))
+
 lost-36 : unaccepted (unspoiled 100 5 stream) (at before) (at after) ≡ 36
-unfolding before after Neighbours
-lost-36 = real-lost (unspoiled 100 5 stream) 100 5 0 (chain stream 100 5 0 sent) before after (subst⁻¹ (Neighbours before after) are-kept (inl (refl, refl)))
+unfolding before after
+lost-36 = real-lost (unspoiled 100 5 stream) 100 5 0 (chain stream 100 5 0 sent) before after neighbours
 
 pub tight : Tight
-unfolding Neighbours
 tight = record {
   torn-so = record {
     fates = stream;
@@ -147,7 +173,7 @@ tight = record {
     stream = fed-stream;
     before = before;
     after = after;
-    neighbours = subst⁻¹ (Neighbours before after) are-kept (inl (refl, refl));
+    neighbours = neighbours;
     one-round = unfold before after in refl;
     lost = lost-36;
     apart = stands-apart;

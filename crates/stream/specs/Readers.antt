@@ -16,7 +16,7 @@ use Rattle.state.specs.declared.deciding.Answer.{Answer}
 use Rattle.state.specs.declared.deciding.Answer.the-variants.{Accepted}
 use Rattle.state.specs.declared.deciding.Taken.{Taken}
 use Rattle.reader.specs.Buffers.{Buffers}
-use Rattle.stream.specs.Running.{Reader, traceOf, accumulations}
+use Rattle.stream.specs.Running.{Call, Reader, traceOf, accumulations}
 use Rattle.stream.specs.Demand.{cellsListed}
 
 -- "A reader that refuses everything"
@@ -32,12 +32,21 @@ pub record StoresNothing (R : Reader) : Type 0 where
   pub steps : (s : State) (b : Buffers) (r : List ℕ) → R .steps s b r .left ≡ b
   pub finishes : (s : State) (b : Buffers) → R .finishes s b .left ≡ b
 
+-- the call for a first record, and that for the next
+abbrev pub firstCall : Reader → Buffers → List ℕ → Call
+firstCall R b r = R .steps fresh b r
+
+abbrev pub nextCall : Reader → Buffers → List ℕ → List ℕ → Call
+nextCall R b r x = R .steps (firstCall R b r .result .state) (firstCall R b r .left) x
+
 -- "One that handles the first record and then only nods": once the first was accepted, what that call left stays, and the next
 -- closes nothing
 pub record Nods (R : Reader) : Type 0 where
-  pub state : (b : Buffers) (r x : List ℕ) → answerNumber (R .steps fresh b r .result .answer) ≡ 0 → R .steps (R .steps fresh b r .result .state) (R .steps fresh b r .left) x .result .state ≡ R .steps fresh b r .result .state
-  pub left : (b : Buffers) (r x : List ℕ) → answerNumber (R .steps fresh b r .result .answer) ≡ 0 → R .steps (R .steps fresh b r .result .state) (R .steps fresh b r .left) x .left ≡ R .steps fresh b r .left
-  pub closes : (b : Buffers) (r x : List ℕ) → answerNumber (R .steps fresh b r .result .answer) ≡ 0 → R .steps (R .steps fresh b r .result .state) (R .steps fresh b r .left) x .result .closed .accumulation ≡ unreported
+  pub state : (b : Buffers) (r x : List ℕ) → answerNumber (firstCall R b r .result .answer) ≡ 0
+      → nextCall R b r x .result .state ≡ firstCall R b r .result .state
+  pub left : (b : Buffers) (r x : List ℕ) → answerNumber (firstCall R b r .result .answer) ≡ 0 → nextCall R b r x .left ≡ firstCall R b r .left
+  pub closes : (b : Buffers) (r x : List ℕ) → answerNumber (firstCall R b r .result .answer) ≡ 0
+      → nextCall R b r x .result .closed .accumulation ≡ unreported
 
 -- "One that never joins": by demand 2 it never says so, by demand 3 no accumulation that it hands out has two frames
 abbrev pub NeverSaysJoins : Reader → Type 0

@@ -25,7 +25,8 @@ pub record TornBy (n : ℕ) : Type 0 where
   pub neighbours : Neighbours before after (realUnspoiled count serial fates)
   pub one-round : round before ≡ round after
   pub lost : unaccepted (unspoiled count serial fates) (at before) (at after) ≡ n
-  pub apart : Every (λ a. Own (realUnspoiled count serial fates) before a → Own (realUnspoiled count serial fates) after a → ⊥) (accumulations (run fresh lent (fed fates)))
+  pub apart : Every (λ a. Own (realUnspoiled count serial fates) before a → Own (realUnspoiled count serial fates) after a → ⊥)
+      (accumulations (run fresh lent (fed fates)))
 
 -- proved as `tight` in proofs/Tight.antt
 pub record Tight : Type 0 where

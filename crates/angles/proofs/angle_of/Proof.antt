@@ -27,7 +27,9 @@ div-t27 c = let a = c .before .before .before .before .args in can-divide (a .an
 
 add-t28 : tie.Need-add-t28
 unfolding table
-add-t28 c = let a = c .before .before .before .before .before .args in record { fits = omega (arith, sum-small (a .anode) (a .phase) (omega arith) (omega arith)) }
+add-t28 c =
+    let a = c .before .before .before .before .before .args in
+    record { fits = omega (arith, sum-small (a .anode) (a .phase) (omega arith) (omega arith)) }
 
 returns-3 : tie.Need-returns-3
 unfolding table

@@ -47,16 +47,22 @@ loop-less c = search needs
 
 loop-again : tie.Need-loop-again Inv-loop μ-loop Inv-loop2 μ-loop2
 loop-again c =
-    let k = c .before .before .before .before .before .before in
+    let b = c .before .before .before .before in
+    let r = b .read-block in
+    let k = b .before .before in
     let l = k .loop in
     let a = k .before .before .before .before .args in (
       search needs,
-      c .before .before .put-block .ensures ∙ block-more (now (a .from)) (now (a .to)) (c .before .before .before .before .read-block .result) (l .to) (l .i) 16 (omega arith) (c .before .before .before .before .read-block .ensures) (l .inv .1),
+      c .before .before .put-block .ensures
+          ∙ block-more (now (a .from)) (now (a .to)) (r .result) (l .to) (l .i) 16 (omega arith) (r .ensures) (l .inv .1),
       search needs,
     )
 
 loop2-holds : tie.Need-loop2-holds Inv-loop μ-loop Inv-loop2 μ-loop2
-loop2-holds c = let l = c .before .loop in let a = c .before .before .before .before .before .args in (search needs, copy-start (l .i) (now (a .from)) (now (a .to)) (l .to) (l .inv .0) (l .inv .1), search needs)
+loop2-holds c =
+    let l = c .before .loop in
+    let a = c .before .before .before .before .before .args in
+    (search needs, copy-start (l .i) (now (a .from)) (now (a .to)) (l .to) (l .inv .0) (l .inv .1), search needs)
 
 shared-slice-read-to : tie.Need-shared-slice-read-to Inv-loop μ-loop Inv-loop2 μ-loop2
 shared-slice-read-to c = search needs

@@ -41,7 +41,8 @@ loop-again c =
     let l = c .before .loop in
     let a = c .before .before .args in (
       search needs,
-      ap (λ (d : List ℕ). set d (a .at + l .k) (getD (a .t1) (l .k) 0)) (l .inv .1) ∙ put-more (now (a .to)) (a .at) (a .t1) (l .k) 0 (omega arith) (omega arith),
+      ap (λ (d : List ℕ). set d (a .at + l .k) (getD (a .t1) (l .k) 0)) (l .inv .1)
+          ∙ put-more (now (a .to)) (a .at) (a .t1) (l .k) 0 (omega arith) (omega arith),
       search needs,
     )
 

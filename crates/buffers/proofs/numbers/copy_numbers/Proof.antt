@@ -48,10 +48,13 @@ loop-again : tie.Need-loop-again Inv-loop μ-loop
 loop-again c =
     let l = c .before .before in
     let a = l .before .before .args in
-    let s = now (a .from) in (
+    let s = now (a .from) in
+    let i = l .loop .i in
+    let x = getD s i (pos 0) in (
       search needs,
-      ap (λ (v : ℤ). set (l .loop .to) (l .loop .i) v) (toZ-ofZ w16 (getD s (l .loop .i) (pos 0)) (record { sfits = c .to .given }))
-          ∙ ap (λ (x : List ℤ). set x (l .loop .i) (getD s (l .loop .i) (pos 0))) (l .loop .inv .1) ∙ copy-more (l .loop .i) s (now (a .to)) (pos 0) (omega arith) (omega arith),
+      ap (λ (v : ℤ). set (l .loop .to) i v) (toZ-ofZ w16 x (record { sfits = c .to .given }))
+          ∙ ap (λ (d : List ℤ). set d i x) (l .loop .inv .1)
+          ∙ copy-more i s (now (a .to)) (pos 0) (omega arith) (omega arith),
       search needs,
     )
 

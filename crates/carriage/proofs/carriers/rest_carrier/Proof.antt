@@ -22,7 +22,10 @@ add-result-2 : tie.Need-add-result-2
 add-result-2 c = search needs
 
 returns-2 : tie.Need-returns-2
-returns-2 c = let k = c .before .before in rest-28 (18 * (k .args .x / 662)) (k .args .x % 662) (omega arith) (omega arith) ∙ rest-is (k .args .x) (k .pre)
+returns-2 c =
+    let k = c .before .before in
+    let x = k .args .x in
+    rest-28 (18 * (x / 662)) (x % 662) (omega arith) (omega arith) ∙ rest-is x (k .pre)
 
 add-result-3 : tie.Need-add-result-3
 add-result-3 c = search needs
@@ -31,19 +34,28 @@ add-result-4 : tie.Need-add-result-4
 add-result-4 c = search needs
 
 returns-3 : tie.Need-returns-3
-returns-3 c = let k = c .before .before .before in rest-283 (18 * (k .args .x / 662)) (k .args .x % 662) (omega arith) (omega arith) (omega arith) ∙ rest-is (k .args .x) (k .pre)
+returns-3 c =
+    let k = c .before .before .before in
+    let x = k .args .x in
+    rest-283 (18 * (x / 662)) (x % 662) (omega arith) (omega arith) (omega arith) ∙ rest-is x (k .pre)
 
 add-result-5 : tie.Need-add-result-5
 add-result-5 c = search needs
 
 returns-4 : tie.Need-returns-4
-returns-4 c = let k = c .before .before .before .before in rest-286 (18 * (k .args .x / 662)) (k .args .x % 662) (omega arith) (omega arith) (omega arith) (omega arith) ∙ rest-is (k .args .x) (k .pre)
+returns-4 c =
+    let k = c .before .before .before .before in
+    let x = k .args .x in
+    rest-286 (18 * (x / 662)) (x % 662) (omega arith) (omega arith) (omega arith) (omega arith) ∙ rest-is x (k .pre)
 
 add-result-6 : tie.Need-add-result-6
 add-result-6 c = search needs
 
 returns-5 : tie.Need-returns-5
-returns-5 c = let k = c .before .before .before .before .before in rest-305 (18 * (k .args .x / 662)) (k .args .x % 662) (omega arith) (omega arith) (omega arith) (omega arith) (omega arith) ∙ rest-is (k .args .x) (k .pre)
+returns-5 c =
+    let k = c .before .before .before .before .before in
+    let x = k .args .x in
+    rest-305 (18 * (x / 662)) (x % 662) (omega arith) (omega arith) (omega arith) (omega arith) (omega arith) ∙ rest-is x (k .pre)
 
 add-result-7 : tie.Need-add-result-7
 add-result-7 c = search needs
@@ -52,7 +64,10 @@ add-result-8 : tie.Need-add-result-8
 add-result-8 c = search needs
 
 returns-6 : tie.Need-returns-6
-returns-6 c = let k = c .before .before .before .before .before in rest-662 (18 * (k .args .x / 662)) (k .args .x % 662) (omega arith) (omega arith) (omega arith) (omega arith) (omega arith) ∙ rest-is (k .args .x) (k .pre)
+returns-6 c =
+    let k = c .before .before .before .before .before in
+    let x = k .args .x in
+    rest-662 (18 * (x / 662)) (x % 662) (omega arith) (omega arith) (omega arith) (omega arith) (omega arith) ∙ rest-is x (k .pre)
 
 pub rest-carrier-spec : {M : Type 1} → statement M
 rest-carrier-spec =

@@ -25,13 +25,21 @@ add-result : tie.Need-add-result
 add-result c = search needs
 
 returns-2 : tie.Need-returns-2
-returns-2 c = let k = c .before .before in sample-12 ((k .args .p - 4) / 16) (omega arith) (omega arith) ∙ sample-is (k .args .p) (k .pre .0) (k .pre .1)
+returns-2 c =
+    let k = c .before .before in
+    let p = k .args .p in
+    sample-12 ((p - 4) / 16) (omega arith) (omega arith) ∙ sample-is p (k .pre .0) (k .pre .1)
 
 half-spin-carrier-requires : tie.Need-half-spin-carrier-requires
 half-spin-carrier-requires c κs = search needs
 
 returns-3 : tie.Need-returns-3
-returns-3 c = let k = c .before .before .before .before in c .half-spin-carrier .ensures ∙ sample-44 ((k .args .p - 4) / 16) (omega arith) (omega arith) (omega arith) ∙ sample-is (k .args .p) (k .pre .0) (k .pre .1)
+returns-3 c =
+    let k = c .before .before .before .before in
+    let p = k .args .p in
+    c .half-spin-carrier .ensures
+    ∙ sample-44 ((p - 4) / 16) (omega arith) (omega arith) (omega arith)
+    ∙ sample-is p (k .pre .0) (k .pre .1)
 
 mul-result-3 : tie.Need-mul-result-3
 mul-result-3 c = search needs
@@ -46,13 +54,21 @@ add-result-3 : tie.Need-add-result-3
 add-result-3 c = search needs
 
 returns-4 : tie.Need-returns-4
-returns-4 c = let k = c .before .before .before .before in sample-52 ((k .args .p - 4) / 16) (omega arith) (omega arith) (omega arith) (omega arith) ∙ sample-is (k .args .p) (k .pre .0) (k .pre .1)
+returns-4 c =
+    let k = c .before .before .before .before in
+    let p = k .args .p in
+    sample-52 ((p - 4) / 16) (omega arith) (omega arith) (omega arith) (omega arith) ∙ sample-is p (k .pre .0) (k .pre .1)
 
 half-spin-carrier-requires-2 : tie.Need-half-spin-carrier-requires-2
 half-spin-carrier-requires-2 c κs = search needs
 
 returns-5 : tie.Need-returns-5
-returns-5 c = let k = c .before .before .before .before .before .before in c .half-spin-carrier2 .ensures ∙ sample-84 ((k .args .p - 4) / 16) (omega arith) (omega arith) (omega arith) (omega arith) (omega arith) ∙ sample-is (k .args .p) (k .pre .0) (k .pre .1)
+returns-5 c =
+    let k = c .before .before .before .before .before .before in
+    let p = k .args .p in
+    c .half-spin-carrier2 .ensures
+    ∙ sample-84 ((p - 4) / 16) (omega arith) (omega arith) (omega arith) (omega arith) (omega arith)
+    ∙ sample-is p (k .pre .0) (k .pre .1)
 
 mul-result-5 : tie.Need-mul-result-5
 mul-result-5 c = search needs
@@ -67,7 +83,11 @@ add-result-5 : tie.Need-add-result-5
 add-result-5 c = search needs
 
 returns-6 : tie.Need-returns-6
-returns-6 c = let k = c .before .before .before .before .before .before in sample-88 ((k .args .p - 4) / 16) (omega arith) (omega arith) (omega arith) (omega arith) (omega arith) (omega arith) ∙ sample-is (k .args .p) (k .pre .0) (k .pre .1)
+returns-6 c =
+    let k = c .before .before .before .before .before .before in
+    let p = k .args .p in
+    sample-88 ((p - 4) / 16) (omega arith) (omega arith) (omega arith) (omega arith) (omega arith) (omega arith)
+    ∙ sample-is p (k .pre .0) (k .pre .1)
 
 mul-result-7 : tie.Need-mul-result-7
 mul-result-7 c = search needs
@@ -82,7 +102,11 @@ add-result-7 : tie.Need-add-result-7
 add-result-7 c = search needs
 
 returns-7 : tie.Need-returns-7
-returns-7 c = let k = c .before .before .before .before .before .before in sample-104 ((k .args .p - 4) / 16) (omega arith) (omega arith) (omega arith) (omega arith) (omega arith) (omega arith) ∙ sample-is (k .args .p) (k .pre .0) (k .pre .1)
+returns-7 c =
+    let k = c .before .before .before .before .before .before in
+    let p = k .args .p in
+    sample-104 ((p - 4) / 16) (omega arith) (omega arith) (omega arith) (omega arith) (omega arith) (omega arith)
+    ∙ sample-is p (k .pre .0) (k .pre .1)
 
 pub sample-carrier-spec : {M : Type 1} → statement M
 sample-carrier-spec =

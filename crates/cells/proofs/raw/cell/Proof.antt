@@ -15,19 +15,29 @@ returns-2 : tie.Need-returns-2
 returns-2 c = let a = c .before .before .before .args in no-mark (now (a .cells)) (a .held) (a .p) (c .before .if1 .left) (omega arith)
 
 returns-3 : tie.Need-returns-3
-returns-3 c = let a = c .before .before .before .before .args in no-cell (now (a .cells)) (a .held) (a .p) (c .before .before .if1 .left) (omega arith) (omega arith)
+returns-3 c =
+    let a = c .before .before .before .before .args in
+    no-cell (now (a .cells)) (a .held) (a .p) (c .before .before .if1 .left) (omega arith) (omega arith)
 
 holds-cell-requires : tie.Need-holds-cell-requires
 holds-cell-requires c κs = search needs
 
 returns-4 : tie.Need-returns-4
-returns-4 c = let a = c .before .before .before .before .before .before .args in is-absent (now (a .cells)) (a .held) (a .p) (omega arith) (omega arith) (omega arith) (c .before .holds-cell .result) (c .before .holds-cell .ensures) (not-true _ (c .if4 .taken))
+returns-4 c =
+    let k = c .before in
+    let a = k .before .before .before .before .before .args in
+    is-absent (now (a .cells)) (a .held) (a .p) (omega arith) (omega arith) (omega arith)
+    (k .holds-cell .result) (k .holds-cell .ensures) (not-true _ (c .if4 .taken))
 
 shared-slice-read-t8 : tie.Need-shared-slice-read-t8
 shared-slice-read-t8 c = search needs
 
 returns-5 : tie.Need-returns-5
-returns-5 c = let a = c .before .before .before .before .before .before .before .args in is-held (now (a .cells)) (a .held) (a .p) (omega arith) (omega arith) (omega arith) (c .before .before .holds-cell .result) (c .before .before .holds-cell .ensures) (not-false _ (c .before .if4 .left))
+returns-5 c =
+    let k = c .before .before in
+    let a = k .before .before .before .before .before .args in
+    is-held (now (a .cells)) (a .held) (a .p) (omega arith) (omega arith) (omega arith)
+    (k .holds-cell .result) (k .holds-cell .ensures) (not-false _ (c .before .if4 .left))
 
 pub cell-spec : {M : Type 1} → statement M
 cell-spec =

@@ -25,7 +25,10 @@ add-t5 : tie.Need-add-t5
 add-t5 c = search needs
 
 returns-3 : tie.Need-returns-3
-returns-3 c = let a = c .before .before .before .before .before .before .before .before .before .before .args in summed (a .a) (a .b) (omega arith) (omega arith)
+returns-3 c =
+    let k = c .before .before .before .before in
+    let a = k .before .before .before .before .before .before .args in
+    summed (a .a) (a .b) (omega arith) (omega arith)
 
 pub add-spec : {M : Type 1} → statement M
 add-spec = tie.close (tie.spec sub-if1 returns sub-if2 returns-2 add-t3 add-t5 returns-3)

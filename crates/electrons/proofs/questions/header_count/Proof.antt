@@ -13,7 +13,12 @@ meaning-of-requires : tie.Need-meaning-of-requires
 meaning-of-requires c κs = search needs
 
 returns : tie.Need-returns
-returns c = let k = c .before .before .before in let a = k .args in header-told (now (a .cells)) (a .held) (a .p) (c .before .cell .result) (c .meaning-of .result) (k .pre) (c .before .cell .ensures .is) (c .meaning-of .ensures)
+returns c =
+    let k = c .before .before .before in
+    let a = k .args in
+    let w = c .before .cell in
+    let m = c .meaning-of in
+    header-told (now (a .cells)) (a .held) (a .p) (w .result) (m .result) (k .pre) (w .ensures .is) (m .ensures)
 
 pub header-count-spec : {M : Type 1} → statement M
 header-count-spec = tie.close (tie.spec cell-requires meaning-of-requires returns)

@@ -24,7 +24,12 @@ enum-told-3 : tie.Need-enum-told-3
 enum-told-3 c = search needs
 
 returns : tie.Need-returns
-returns c = let a = c .before .before .before .before .before .before .before .args in counted-told (a .raw) (a .scale) _ _ (c .range-of .result) (c .before .before .before .before .before .raw .given .1) (c .before .before .scale .given .1) (c .range-of .ensures)
+returns c =
+    let k = c .before .before in
+    let w = k .before .before .before in
+    let a = w .before .before .args in
+    let r = c .range-of in
+    counted-told (a .raw) (a .scale) _ _ (r .result) (w .raw .given .1) (k .scale .given .1) (r .ensures)
 
 returns-2 : tie.Need-returns-2
 returns-2 c = search needs

@@ -19,7 +19,14 @@ meaning-of-requires : tie.Need-meaning-of-requires
 meaning-of-requires c κs = search needs
 
 returns : tie.Need-returns
-returns c = let a = c .before .before .before .before .before .args in sample-told (now (a .cells)) (a .held) (a .bin) (a .number) (a .angle) (c .before .before .before .sample-place .result) (c .before .before .cell .result) (c .before .scale-of .result) (c .meaning-of .result) (c .before .before .before .sample-place .ensures) (c .before .before .cell .ensures .is) (c .before .scale-of .ensures) (c .meaning-of .ensures)
+returns c =
+    let a = c .before .before .before .before .before .args in
+    let p = c .before .before .before .sample-place in
+    let w = c .before .before .cell in
+    let k = c .before .scale-of in
+    let m = c .meaning-of in
+    sample-told (now (a .cells)) (a .held) (a .bin) (a .number) (a .angle)
+    (p .result) (w .result) (k .result) (m .result) (p .ensures) (w .ensures .is) (k .ensures) (m .ensures)
 
 pub sample-spec : {M : Type 1} → statement M
 sample-spec =

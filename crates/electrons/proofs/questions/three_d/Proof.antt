@@ -16,7 +16,12 @@ meaning-of-requires : tie.Need-meaning-of-requires
 meaning-of-requires c κs = search needs
 
 returns : tie.Need-returns
-returns c = let a = c .before .before .before .before .args in three-told (now (a .cells)) (a .held) (a .step) (a .angle) (c .before .before .three-place .result) (c .before .cell .result) (c .meaning-of .result) (c .before .before .three-place .ensures) (c .before .cell .ensures .is) (c .meaning-of .ensures)
+returns c =
+    let a = c .before .before .before .before .args in
+    let p = c .before .before .three-place in
+    let w = c .before .cell in
+    let m = c .meaning-of in
+    three-told (now (a .cells)) (a .held) (a .step) (a .angle) (p .result) (w .result) (m .result) (p .ensures) (w .ensures .is) (m .ensures)
 
 pub three-d-spec : {M : Type 1} → statement M
 three-d-spec = tie.close (tie.spec three-place-requires cell-requires meaning-of-requires returns)

@@ -18,7 +18,9 @@ can-scale-requires : tie.Need-can-scale-requires
 can-scale-requires c κs = search needs
 
 returns : tie.Need-returns
-returns c = let a = c .before .before .before .args in never-scaled (now (a .cells)) (a .held) (a .bin) (sym (c .before .can-scale .ensures) ∙ not-true _ (c .if1 .taken))
+returns c =
+    let a = c .before .before .before .args in
+    never-scaled (now (a .cells)) (a .held) (a .bin) (sym (c .before .can-scale .ensures) ∙ not-true _ (c .if1 .taken))
 
 cell-requires : tie.Need-cell-requires
 cell-requires c κs = search needs
@@ -27,13 +29,26 @@ enum-known-state : tie.Need-enum-known-state
 enum-known-state c = search needs
 
 cast-if2 : tie.Need-cast-if2
-cast-if2 c = let a = c .before .before .before .before .before .before .before .args in let h = scalable-small (a .bin) (sym (c .before .before .before .before .before .can-scale .ensures) ∙ not-false _ (c .before .before .before .before .if1 .left)) in record { fits = omega arith }
+cast-if2 c =
+    let k = c .before .before .before .before .before in
+    let a = k .before .before .args in
+    let h = scalable-small (a .bin) (sym (k .can-scale .ensures) ∙ not-false _ (c .before .before .before .before .if1 .left)) in
+    record { fits = omega arith }
 
 shr-if2 : tie.Need-shr-if2
-shr-if2 c = let a = c .before .before .before .before .before .before .before .args in let h = scalable-small (a .bin) (sym (c .before .before .before .before .before .can-scale .ensures) ∙ not-false _ (c .before .before .before .before .if1 .left)) in omega arith
+shr-if2 c =
+    let k = c .before .before .before .before .before in
+    let a = k .before .before .args in
+    let h = scalable-small (a .bin) (sym (k .can-scale .ensures) ∙ not-false _ (c .before .before .before .before .if1 .left)) in
+    omega arith
 
 returns-2 : tie.Need-returns-2
-returns-2 c = let a = c .before .before .before .before .before .before .before .before .args in ap (λ (d : Bool). Known (cond d By8 By1)) (sym (eq-eqb _ _ (c .if2 .taken))) ∙ ap (λ (r : Raw). byState r (a .bin)) (sym (c .before .before .state .given .1) ∙ c .before .before .before .before .cell .ensures .is) ∙ by-state (now (a .cells)) (a .held) (a .bin) (sym (c .before .before .before .before .before .before .can-scale .ensures) ∙ not-false _ (c .before .before .before .before .before .if1 .left))
+returns-2 c =
+    let k = c .before .before .before .before in
+    let a = k .before .before .before .before .args in
+    ap (λ (d : Bool). Known (cond d By8 By1)) (sym (eq-eqb _ _ (c .if2 .taken)))
+    ∙ ap (λ (r : Raw). byState r (a .bin)) (sym (c .before .before .state .given .1) ∙ k .cell .ensures .is)
+    ∙ by-state (now (a .cells)) (a .held) (a .bin) (sym (k .before .before .can-scale .ensures) ∙ not-false _ (k .before .if1 .left))
 
 enum-told : tie.Need-enum-told
 enum-told c = search needs
@@ -42,13 +57,26 @@ enum-told-2 : tie.Need-enum-told-2
 enum-told-2 c = search needs
 
 returns-3 : tie.Need-returns-3
-returns-3 c = let a = c .before .before .before .before .before .before .before .before .args in ap (λ (d : Bool). Known (cond d By8 By1)) (sym (ne-eqb _ _ (c .if2 .left))) ∙ ap (λ (r : Raw). byState r (a .bin)) (sym (c .before .before .state .given .1) ∙ c .before .before .before .before .cell .ensures .is) ∙ by-state (now (a .cells)) (a .held) (a .bin) (sym (c .before .before .before .before .before .before .can-scale .ensures) ∙ not-false _ (c .before .before .before .before .before .if1 .left))
+returns-3 c =
+    let k = c .before .before .before .before in
+    let a = k .before .before .before .before .args in
+    ap (λ (d : Bool). Known (cond d By8 By1)) (sym (ne-eqb _ _ (c .if2 .left)))
+    ∙ ap (λ (r : Raw). byState r (a .bin)) (sym (c .before .before .state .given .1) ∙ k .cell .ensures .is)
+    ∙ by-state (now (a .cells)) (a .held) (a .bin) (sym (k .before .before .can-scale .ensures) ∙ not-false _ (k .before .if1 .left))
 
 returns-4 : tie.Need-returns-4
-returns-4 c = let a = c .before .before .before .before .before .before .args in ap (λ (r : Raw). byState r (a .bin)) (sym (c .enum-told .given .1) ∙ c .before .before .cell .ensures .is) ∙ by-state (now (a .cells)) (a .held) (a .bin) (sym (c .before .before .before .before .can-scale .ensures) ∙ not-false _ (c .before .before .before .if1 .left))
+returns-4 c =
+    let k = c .before .before in
+    let a = k .before .before .before .before .args in
+    ap (λ (r : Raw). byState r (a .bin)) (sym (c .enum-told .given .1) ∙ k .cell .ensures .is)
+    ∙ by-state (now (a .cells)) (a .held) (a .bin) (sym (k .before .before .can-scale .ensures) ∙ not-false _ (k .before .if1 .left))
 
 returns-5 : tie.Need-returns-5
-returns-5 c = let a = c .before .before .before .before .before .before .args in ap (λ (r : Raw). byState r (a .bin)) (sym (c .enum-told2 .given .1) ∙ c .before .before .cell .ensures .is) ∙ by-state (now (a .cells)) (a .held) (a .bin) (sym (c .before .before .before .before .can-scale .ensures) ∙ not-false _ (c .before .before .before .if1 .left))
+returns-5 c =
+    let k = c .before .before in
+    let a = k .before .before .before .before .args in
+    ap (λ (r : Raw). byState r (a .bin)) (sym (c .enum-told2 .given .1) ∙ k .cell .ensures .is)
+    ∙ by-state (now (a .cells)) (a .held) (a .bin) (sym (k .before .before .can-scale .ensures) ∙ not-false _ (k .before .if1 .left))
 
 pub scale-of-spec : {M : Type 1} → statement M
 scale-of-spec =
