@@ -13,6 +13,7 @@ use Rattle.tables.specs.Marks.{highest, marked}
 use Rattle.tables.proofs.Marks.{highest-marked, marked-below, ones-marked}
 use Rattle.clock.specs.Clock.{counts, accepted}
 use Rattle.clock.specs.declared.Clock.{Clock}
+use Rattle.clock.proofs.Laws.{not-begun}
 use Rattle.accumulation.specs.Accumulation.{noAccumulation, joins, joined, started, passed, extends, renews, passes, stepAccumulation}
 use Rattle.accumulation.specs.List.{countsBelow, framesAmong, framesFit, othersFit, noneOpen, accumulationListed}
 use Rattle.accumulation.specs.declared.Accumulation.{Accumulation}
@@ -111,3 +112,15 @@ step-listed c a science u d e t above b = is-listed (accepted d) _ (go science (
     go true true t q = keeps-joined c a f u d (t refl) (is-above c a e d above (joins-open a u d q)) b q
     go true false t q = keeps-started u d (t refl) b
     go false j t q = keeps-passed c a f d b (is-above c a e d above)
+
+-- "With no accumulation open, its numbers are 0": until something is accepted there is none
+all-zero : (first held type count others : ℕ) → first ≡ 0 → held ≡ 0 → type ≡ 0 → count ≡ 0 → others ≡ 0
+    → _≡_ {A = Accumulation} (record { first = first; held = held; «last_type» = type; «last_count» = count; others = others }) noAccumulation
+all-zero first held type count others a b c d e = rw (a, b, c, d, e)
+
+pub unstarted : (c : Clock) (a : Accumulation) → accumulationListed c a ≡ true → c .any ≡ false → a ≡ noAccumulation
+unstarted c a e n =
+    let f = frames c a e in
+    let h = not-begun c (a .held) (f .start) n in
+    let z = none-zero a (f .shut) h in
+    all-zero (a .first) (a .held) (a .«last_type») (a .«last_count») (a .others) (z .first-is) h (z .type-is) (z .last-is) (z .others-are)

@@ -81,6 +81,10 @@ has-begun c n e h = go (c .any) refl e
 pub not-begun : (c : Clock) (n : ℕ) → begun c n ≡ true → c .any ≡ false → n ≡ 0
 not-begun c n e a = eqb-true n 0 (second (c .any) (eqb n 0) a e)
 
-pub last-nought : (c : Clock) → clockListed c ≡ true → c .any ≡ false → c .last ≡ 0
+-- such a clock is the fresh one
+made : (any : Bool) (last : ℕ) → any ≡ false → last ≡ 0 → _≡_ {A = Clock} (record { any = any; last = last }) unset
+made any last p q = rw (p, q)
+
+pub unset-is : (c : Clock) → clockListed c ≡ true → c .any ≡ false → c ≡ unset
 unfolding clockListed
-last-nought c e a = not-begun c (c .last) (two (ltb (c .last) counts) (begun c (c .last)) e .1) a
+unset-is c e a = made (c .any) (c .last) a (not-begun c (c .last) (two (ltb (c .last) counts) (begun c (c .last)) e .1) a)

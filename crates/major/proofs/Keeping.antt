@@ -1,24 +1,27 @@
 -- The open major frame keeps its part of the state list.
 -- Assumes nothing.
-use mathlib.Core.Path.{_≡_, refl, sym, subst, subst⁻¹}
-use mathlib.Core.Bool.{Bool, true, false, cond, _&&_, or-true}
+use mathlib.Core.Path.{_≡_, refl, sym, subst, subst⁻¹, _∙_}
+use mathlib.Core.Bool.{Bool, true, false, cond, not, _&&_, or-true}
+use mathlib.Core.List.{List}
 use Prim.Native.Nat.{ℕ, _+_, _/_, _^_, _<_, _≤_}
 use native.Mathlib.Omega.{arith}
 use lib.Dec.{eqb}
-use lib.ListN.{length, getD, length-set, getD-replicate}
+use lib.ListN.{length, replicate, getD, length-set, length-replicate, getD-replicate}
 use lib.Pow.{pow-mono, pow-pos}
-use lib.Seq.{getD-set-same, getD-set-other}
+use lib.Seq.{ext-getD, getD-set-same, getD-set-other}
 use borrow.Author.Tests.{eqb-true, eqb-false, eq-eqb, ne-eqb, le-leb}
-use Rattle.tables.specs.Marks.{highest, marked}
-use Rattle.tables.proofs.Marks.{highest-marked, marked-own, marked-other, marked-below, bits-above}
+use Rattle.tables.specs.Marks.{bitSet, highest, marked}
+use Rattle.tables.proofs.Marks.{highest-marked, marked-own, marked-other, marked-below, bits-above, below}
+use Rattle.tables.proofs.Conds.{second}
 use Rattle.tables.proofs.Upto.{upto-all}
 use Rattle.clock.specs.Clock.{accepted}
 use Rattle.clock.specs.declared.Clock.{Clock}
+use Rattle.clock.proofs.Laws.{not-begun}
 use Rattle.major.specs.Major.{majorNumber, slotOf, noMajor, continues, into, stays, turns, stepMajor}
 use Rattle.major.specs.List.{slotTest, slotHolds, slotsHold, majorNow, noSlot, majorListed}
 use Rattle.major.specs.Shape.{Shaped}
 use Rattle.major.specs.declared.Major.{Major}
-use Rattle.major.proofs.Facts.{Slots, slots-of, is-listed, slot-clauses, well-facts, is-free}
+use Rattle.major.proofs.Facts.{Slots, slots-of, is-listed, slot-clauses, well-facts, mag-among, is-free}
 use Rattle.major.proofs.Parts.{low-marks}
 
 -- a frame that a slot can go into
@@ -46,7 +49,8 @@ module _ (m : Major) (d : ℕ) (t : Room m (slotOf d)) (g w : ℕ) (hg : g ≤ 7
   unfolding slotHolds slotTest into
   slot-here true =
       let len : slotOf d < length (m .ranges) = omega (arith, t .shaped .ranges) in
-      rw (getD-set-same (m .ranges) (slotOf d) g 0 len, le-leb g 7 hg, marked-own (m .«mag_slots») (slotOf d) (t .mags), marked-own (m .slots) (slotOf d) (t .slots))
+      let own = marked-own (m .slots) (slotOf d) (t .slots) in
+      rw (getD-set-same (m .ranges) (slotOf d) g 0 len, le-leb g 7 hg, marked-own (m .«mag_slots») (slotOf d) (t .mags), own)
   slot-here false =
       let f = well-facts m (slotOf d) (t .well (slotOf d) small) in
       let q = bits-above (m .«mag_slots») (slotOf d) (t .mags) in
@@ -56,7 +60,9 @@ module _ (m : Major) (d : ℕ) (t : Room m (slotOf d)) (g w : ℕ) (hg : g ≤ 7
   slot-there : (mag : Bool) (i : ℕ) → i < 16 → (i ≡ slotOf d → ⊥) → slotHolds (into m d mag g w) i ≡ true
   unfolding slotHolds slotTest into
   slot-there true i h n =
-      rw (getD-set-other (m .ranges) (slotOf d) i g 0 n, getD-set-other (m .words) (slotOf d) i w 0 n, marked-other (m .«mag_slots») (slotOf d) i (t .mags) n, marked-other (m .slots) (slotOf d) i (t .slots) n) (t .well i h)
+      let range = getD-set-other (m .ranges) (slotOf d) i g 0 n in
+      let word = getD-set-other (m .words) (slotOf d) i w 0 n in
+      rw (range, word, marked-other (m .«mag_slots») (slotOf d) i (t .mags) n, marked-other (m .slots) (slotOf d) i (t .slots) n) (t .well i h)
   slot-there false i h n =
       rw (getD-set-other (m .words) (slotOf d) i w 0 n, marked-other (m .slots) (slotOf d) i (t .slots) n) (t .well i h)
 
@@ -101,7 +107,8 @@ none-listed c =
     is-listed c noMajor (record { slots = upto-all (slotHolds noMajor) 16 none-well; current = refl; empty = refl; start = or-true (c .any) })
 
 -- and a record at a later count keeps it, and the shape
-module _ (c : Clock) (m : Major) (d : ℕ) (mag : Bool) (g w : ℕ) (e : majorListed c m ≡ true) (z : Shaped m) (above : c .any ≡ true → c .last < d) (hg : g ≤ 7) where
+module _ (c : Clock) (m : Major) (d : ℕ) (mag : Bool) (g w : ℕ)
+    (e : majorListed c m ≡ true) (z : Shaped m) (above : c .any ≡ true → c .last < d) (hg : g ≤ 7) where
   abbrev held-in : Bool → Major
   held-in t = cond t m noMajor
 
@@ -132,3 +139,29 @@ module _ (c : Clock) (m : Major) (d : ℕ) (mag : Bool) (g w : ℕ) (e : majorLi
 
   pub step-shaped : Shaped (stepMajor m d mag g w .next)
   step-shaped = subst⁻¹ Shaped next-is (shaped-into (held-in (continues m d)) d (room (continues m d) refl) g w hg mag)
+
+-- a list of zeros is one
+zeros : (n : ℕ) (xs : List ℕ) → length xs ≡ n → ((i : ℕ) → i < n → getD xs i 0 ≡ 0) → xs ≡ replicate n 0
+zeros n xs l h =
+    ext-getD 0 xs (replicate n 0) (l ∙ sym (length-replicate {A = ℕ} n 0))
+    (λ i b. h i (omega arith) ∙ sym (getD-replicate {A = ℕ} n i 0 0 (omega arith)))
+
+all-zero : (number slots mags : ℕ) (ranges words : List ℕ) → number ≡ 0 → slots ≡ 0 → mags ≡ 0 → ranges ≡ replicate 16 0 → words ≡ replicate 16 0
+    → _≡_ {A = Major} (record { number = number; slots = slots; «mag_slots» = mags; ranges = ranges; words = words }) noMajor
+all-zero number slots mags ranges words a b c d e = rw (a, b, c, d, e)
+
+-- until something is accepted there is none
+pub unstarted : (c : Clock) (m : Major) → majorListed c m ≡ true → Shaped m → c .any ≡ false → m ≡ noMajor
+unfolding noSlot
+unstarted c m e z n =
+    let f = slots-of c m e in
+    let slots = not-begun c (m .slots) (f .start) n in
+    let shut : not (eqb (m .slots) 0) ≡ false = rw (eq-eqb (m .slots) 0 slots) in
+    let number : m .number ≡ 0 = eqb-true _ _ (second (not (eqb (m .slots) 0)) _ shut (f .empty)) in
+    let free : (i : ℕ) → bitSet (m .slots) i ≡ false = λ i. rw slots (bits-above 0 i (pow-pos i)) in
+    let holds : (i : ℕ) → i < 16 → slotHolds m i ≡ true = λ i q. slot-clauses m i (f .slots) q in
+    let unmarked : (i : ℕ) → i < 16 → bitSet (m .«mag_slots») i ≡ false = λ i q. mag-among m i (holds i q) (free i) in
+    let mags : m .«mag_slots» ≡ 0 = omega (arith, below 16 0 (m .«mag_slots») (z .mags) (λ i p q. unmarked i q)) in
+    let ranges = zeros 16 (m .ranges) (z .ranges) (λ i q. eqb-true _ _ (second _ _ (unmarked i q) (well-facts m i (holds i q) .range))) in
+    let words = zeros 16 (m .words) (z .words) (λ i q. eqb-true _ _ (second _ _ (free i) (well-facts m i (holds i q) .word))) in
+    all-zero (m .number) (m .slots) (m .«mag_slots») (m .ranges) (m .words) number slots mags ranges words

@@ -1,29 +1,23 @@
 -- The state list is kept by step and finish; from a state that passes it rule 13 can't hit.
 -- Assumes nothing.
 use mathlib.Core.Path.{_≡_, refl, sym, subst⁻¹, _∙_}
-use mathlib.Core.Bool.{Bool, true, false, not, cond, _&&_, _||_, true≢false}
-use mathlib.Core.List.{List}
+use mathlib.Core.Bool.{Bool, true, false, cond, _&&_, true≢false}
 use Prim.Native.Nat.{ℕ, _<_}
 use native.Mathlib.Omega.{arith}
 use lib.Dec.{eqb}
-use lib.ListN.{length, replicate, getD, length-replicate, getD-replicate}
-use lib.Pow.{pow-pos}
-use lib.Seq.{ext-getD}
-use borrow.Author.Tests.{eqb-true, eqb-false, eq-eqb}
-use Rattle.tables.proofs.Conds.{two, second}
-use Rattle.tables.specs.Marks.{bitSet}
+use borrow.Author.Tests.{eqb-true, eqb-false}
+use Rattle.tables.proofs.Conds.{two}
 use Rattle.tables.specs.Rules.{ofPart, holdsIn, beforeHold}
 use Rattle.record.specs.Rules.{rules}
-use Rattle.tables.proofs.Marks.{bits-above, below}
-use Rattle.clock.specs.Clock.{unset, accepted, isLater, clockListed}
+use Rattle.clock.specs.Clock.{counts, unset, accepted, isLater, clockListed}
 use Rattle.clock.specs.declared.Clock.{Clock}
-use Rattle.clock.proofs.Laws.{dated-above, dated-below, accepted-listed, unset-listed, not-begun, last-nought}
+use Rattle.clock.proofs.Laws.{dated-above, dated-below, accepted-listed, unset-listed, unset-is}
 use Rattle.accumulation.specs.Accumulation.{noAccumulation}
-use Rattle.accumulation.proofs.Facts.{frames, guard-holds, none-zero}
+use Rattle.accumulation.specs.declared.Accumulation.{Accumulation}
+use Rattle.accumulation.proofs.Facts.{frames, guard-holds}
 use Rattle.accumulation.proofs.Keeping as accumulation
 use Rattle.major.specs.Major.{noMajor}
-use Rattle.major.specs.List.{slotHolds, noSlot}
-use Rattle.major.proofs.Facts.{slots-of, slot-clauses, well-facts, mag-among}
+use Rattle.major.specs.declared.Major.{Major}
 use Rattle.major.proofs.Keeping as major
 use Rattle.state.specs.List.{fresh, listed}
 use Rattle.state.specs.Deciding.{Input, fieldsOf, countAt, magRange, stateHolds, clockHolds, guardHolds, readerRules, numberOf, acceptance, decidedOf}
@@ -58,7 +52,7 @@ module _ (i : Input) (sound : Sound (i .state)) (later : isLater (i .state .cloc
   above : i .state .clock .any ≡ true → i .state .clock .last < countAt i
   above = dated-above (i .state .clock) (fieldsOf i) later
 
-  small : countAt i < 16777216
+  small : countAt i < counts
   small = dated-below (i .state .clock) (i .bytes) (known .clock) later
 
   accepted-sound : Sound (acceptance (i .state) (fieldsOf i) (countAt i) (magRange i) .stepped .state)
@@ -118,44 +112,14 @@ never-13 i e =
     let f = exactly i .fails 13 .0 (e, omega arith) in
     true≢false (sym (guard-so i (holds-1 i (f .1))) ∙ fails-13 i (f .0))
 
--- a list of zeros is one
-zeros : (n : ℕ) (xs : List ℕ) → length xs ≡ n → ((i : ℕ) → i < n → getD xs i 0 ≡ 0) → xs ≡ replicate n 0
-zeros n xs l h = ext-getD 0 xs (replicate n 0) (l ∙ sym (length-replicate {A = ℕ} n 0)) (λ i b. h i (omega arith) ∙ sym (getD-replicate {A = ℕ} n i 0 0 (omega arith)))
-
-unfoldable made : Bool → (last first held type count others number slots mags : ℕ) → List ℕ → List ℕ → State
-made any last first held type count others number slots mags ranges words = record {
-  clock = record { any = any; last = last };
-  accumulation = record { first = first; held = held; «last_type» = type; «last_count» = count; others = others };
-  major = record { number = number; slots = slots; «mag_slots» = mags; ranges = ranges; words = words };
-}
-
-all-zero : (any : Bool) (last first held type count others number slots mags : ℕ) (ranges words : List ℕ)
-    → any ≡ false → last ≡ 0 → first ≡ 0 → held ≡ 0 → type ≡ 0 → count ≡ 0 → others ≡ 0 → number ≡ 0 → slots ≡ 0 → mags ≡ 0 → ranges ≡ replicate 16 0 → words ≡ replicate 16 0
-    → made any last first held type count others number slots mags ranges words ≡ fresh
-unfolding made
-all-zero any last first held type count others number slots mags ranges words a b c d e f g h i j k l = rw (a, b, c, d, e, f, g, h, i, j, k, l)
+all-none : (c : Clock) (a : Accumulation) (m : Major) → c ≡ unset → a ≡ noAccumulation → m ≡ noMajor
+    → _≡_ {A = State} (record { clock = c; accumulation = a; major = m }) fresh
+all-none c a m p q r = rw (p, q, r)
 
 -- "Until something is accepted, all is 0."
 pub unstarted : (s : State) → Sound s → s .clock .any ≡ false → s ≡ fresh
-unfolding noSlot made
 unstarted s sound a =
-    let c = s .clock in
-    let m = s .major in
     let f = facts s (sound .passes) in
-    let fa = frames c (s .accumulation) (f .accumulation) in
-    let fm = slots-of c m (f .major) in
-    let l = last-nought c (f .clock) a in
-    let held = not-begun c (s .accumulation .held) (fa .start) a in
-    let slots = not-begun c (m .slots) (fm .start) a in
-    let z = none-zero (s .accumulation) (fa .shut) held in
-    let n : not (eqb (m .slots) 0) ≡ false = rw (eq-eqb (m .slots) 0 slots) in
-    let number : m .number ≡ 0 = eqb-true _ _ (second (not (eqb (m .slots) 0)) _ n (fm .empty)) in
-    let free : (i : ℕ) → bitSet (m .slots) i ≡ false = λ i. rw slots (bits-above 0 i (pow-pos i)) in
-    let holds : (i : ℕ) → i < 16 → slotHolds m i ≡ true = λ i q. slot-clauses m i (fm .slots) q in
-    let unmarked : (i : ℕ) → i < 16 → bitSet (m .«mag_slots») i ≡ false = λ i q. mag-among m i (holds i q) (free i) in
-    let mags : m .«mag_slots» ≡ 0 = omega (arith, below 16 0 (m .«mag_slots») (sound .shaped .mags) (λ i p q. unmarked i q)) in
-    let ranges = zeros 16 (m .ranges) (sound .shaped .ranges) (λ i q. eqb-true _ _ (second _ _ (unmarked i q) (well-facts m i (holds i q) .range))) in
-    let words = zeros 16 (m .words) (sound .shaped .words) (λ i q. eqb-true _ _ (second _ _ (free i) (well-facts m i (holds i q) .word))) in
-    all-zero (c .any) (c .last) (s .accumulation .first) (s .accumulation .held) (s .accumulation .«last_type»)
-    (s .accumulation .«last_count») (s .accumulation .others) (m .number) (m .slots) (m .«mag_slots») (m .ranges) (m .words)
-    a l (z .first-is) held (z .type-is) (z .last-is) (z .others-are) number slots mags ranges words
+    all-none (s .clock) (s .accumulation) (s .major) (unset-is (s .clock) (f .clock) a)
+    (accumulation.unstarted (s .clock) (s .accumulation) (f .accumulation) a)
+    (major.unstarted (s .clock) (s .major) (f .major) (sound .shaped) a)

@@ -6,10 +6,10 @@ use Rattle.accumulation.proofs.list.others_fit.Statement.{statement}
 use Rattle.accumulation.proofs.list.others_fit.Tie as tie
 
 returns : tie.Need-returns
-returns c = others-above (c .before .before .before .args .clock) (c .before .before .before .args .a) (omega arith)
+returns c = let a = c .before .before .before .args in others-above (a .clock) (a .a) (omega arith)
 
 returns-2 : tie.Need-returns-2
-returns-2 c = others-within (c .before .before .before .before .before .before .args .clock) (c .before .before .before .before .before .before .args .a) (omega arith)
+returns-2 c = let a = c .before .before .before .before .before .before .args in others-within (a .clock) (a .a) (omega arith)
 
 pub others-fit-spec : {M : Type 1} → statement M
 others-fit-spec = tie.close (tie.spec returns returns-2)

@@ -34,7 +34,11 @@ unfolding majorListed
 returns-3 c =
     let p2 = c .before .before in
     let p1 = p2 .before .before in
-    rw (held (p1 .before .slots-hold .ensures) (p1 .if1 .left), held (p2 .before .major-now .ensures) (p2 .if2 .left), fails (c .before .no-slot .ensures) (c .if3 .taken))
+    rw (
+      held (p1 .before .slots-hold .ensures) (p1 .if1 .left),
+      held (p2 .before .major-now .ensures) (p2 .if2 .left),
+      fails (c .before .no-slot .ensures) (c .if3 .taken),
+    )
 
 returns-4 : tie.Need-returns-4
 unfolding majorListed
@@ -42,7 +46,12 @@ returns-4 c =
     let p3 = c .before in
     let p2 = p3 .before .before in
     let p1 = p2 .before .before in
-    rw (held (p1 .before .slots-hold .ensures) (p1 .if1 .left), held (p2 .before .major-now .ensures) (p2 .if2 .left), held (p3 .before .no-slot .ensures) (p3 .if3 .left), c .if4 .taken)
+    rw (
+      held (p1 .before .slots-hold .ensures) (p1 .if1 .left),
+      held (p2 .before .major-now .ensures) (p2 .if2 .left),
+      held (p3 .before .no-slot .ensures) (p3 .if3 .left),
+      c .if4 .taken,
+    )
 
 returns-5 : tie.Need-returns-5
 unfolding majorListed
@@ -50,7 +59,12 @@ returns-5 c =
     let p3 = c .before .before in
     let p2 = p3 .before .before in
     let p1 = p2 .before .before in
-    rw (held (p1 .before .slots-hold .ensures) (p1 .if1 .left), held (p2 .before .major-now .ensures) (p2 .if2 .left), held (p3 .before .no-slot .ensures) (p3 .if3 .left), c .before .if4 .left)
+    rw (
+      held (p1 .before .slots-hold .ensures) (p1 .if1 .left),
+      held (p2 .before .major-now .ensures) (p2 .if2 .left),
+      held (p3 .before .no-slot .ensures) (p3 .if3 .left),
+      c .before .if4 .left,
+    )
 
 pub is-listed-spec : {M : Type 1} → statement M
 is-listed-spec =

@@ -36,7 +36,9 @@ slot-holds-requires c κs = search needs
 
 returns : tie.Need-returns Inv-loop μ-loop
 unfolding slotsHold slotHolds
-returns c = let l = c .before .before .before .before .before in sym (upto-false (slotHolds (l .before .args .t1)) 16 (l .loop .i) (omega arith) (fails (c .before .slot-holds .ensures) (c .if1 .taken)))
+returns c =
+    let l = c .before .before .before .before .before in
+    sym (upto-false (slotHolds (l .before .args .t1)) 16 (l .loop .i) (omega arith) (fails (c .before .slot-holds .ensures) (c .if1 .taken)))
 
 add-i : tie.Need-add-i Inv-loop μ-loop
 add-i c = search needs
@@ -46,7 +48,10 @@ loop-less c = search needs
 
 loop-again : tie.Need-loop-again Inv-loop μ-loop
 unfolding slotHolds
-loop-again c = let l = c .before .before .before .before .before in (search needs, one-more (slotHolds (l .before .args .t1)) (l .loop .i) (held (c .before .slot-holds .ensures) (c .if1 .left)) (l .loop .inv .1))
+loop-again c =
+    let l = c .before .before .before .before .before in
+    let h = held (c .before .slot-holds .ensures) (c .if1 .left) in
+    (search needs, one-more (slotHolds (l .before .args .t1)) (l .loop .i) h (l .loop .inv .1))
 
 returns-2 : tie.Need-returns-2 Inv-loop μ-loop
 unfolding slotsHold

@@ -21,7 +21,9 @@ element-write-n : tie.Need-element-write-n
 element-write-n c = search needs
 
 add-n-2 : tie.Need-add-n-2
-add-n-2 c = let a = c .before .before .before .args in record { fits = mag-fits (a .m) (a .d) (c .struct-known2 .given .1 .1 .0 .fits) (c .before .before .before .pre .1) }
+add-n-2 c =
+    let k = c .before .before .before in
+    record { fits = mag-fits (k .args .m) (k .args .d) (c .struct-known2 .given .1 .1 .0 .fits) (k .pre .1) }
 
 element-write-n-2 : tie.Need-element-write-n-2
 element-write-n-2 c = search needs

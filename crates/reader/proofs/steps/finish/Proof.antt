@@ -25,7 +25,8 @@ work-samples-requires : tie.Need-work-samples-requires
 work-samples-requires c κs =
     let d = c .before .before .before .before .before in
     let a = d .before .before .before .before .args in
-    samples-end (a .state) (buffers (now (a .open-cells)) (now (a .finished-cells)) (now (a .open-samples)) (now (a .finished-samples))) _ (d .before .right-sizes .ensures) _ (d .end .ensures)
+    let b = buffers (now (a .open-cells)) (now (a .finished-cells)) (now (a .open-samples)) (now (a .finished-samples)) in
+    samples-end (a .state) b _ (d .before .right-sizes .ensures) _ (d .end .ensures)
 
 slice-aggregate-work-cells : tie.Need-slice-aggregate-work-cells
 slice-aggregate-work-cells c = search needs
@@ -35,7 +36,8 @@ work-cells-requires c κs =
     let v = c .before .before .before .before .before in
     let d = v .before .before .before .before .before .before in
     let a = d .before .before .before .before .args in
-    cells-end (a .state) (buffers (now (a .open-cells)) (now (a .finished-cells)) (now (a .open-samples)) (now (a .finished-samples))) _ (d .before .right-sizes .ensures) _ (d .end .ensures)
+    let b = buffers (now (a .open-cells)) (now (a .finished-cells)) (now (a .open-samples)) (now (a .finished-samples)) in
+    cells-end (a .state) b _ (d .before .right-sizes .ensures) _ (d .end .ensures)
 
 same-length : tie.Need-same-length
 same-length c = search needs

@@ -26,7 +26,8 @@ work-samples-requires c κs =
     let p = c .before .before in
     let d = p .before .before .before in
     let a = d .before .before .before .before .before .args in
-    samples-ready (a .state) (buffers (now (a .open-cells)) (now (a .finished-cells)) (now (a .open-samples)) (now (a .finished-samples))) (now (a .r)) _ (d .before .right-sizes .ensures) _ (d .decide .ensures)
+    let b = buffers (now (a .open-cells)) (now (a .finished-cells)) (now (a .open-samples)) (now (a .finished-samples)) in
+    samples-ready (a .state) b (now (a .r)) _ (d .before .right-sizes .ensures) _ (d .decide .ensures)
     _ (a .r .ptr) _ (p .packet-in .ensures)
 
 work-cells-requires : tie.Need-work-cells-requires
@@ -34,7 +35,8 @@ work-cells-requires c κs =
     let p = c .before .before .before .before .before .before .before in
     let d = p .before .before .before in
     let a = d .before .before .before .before .before .args in
-    cells-ready (a .state) (buffers (now (a .open-cells)) (now (a .finished-cells)) (now (a .open-samples)) (now (a .finished-samples))) (now (a .r)) _ (d .before .right-sizes .ensures) _ (d .decide .ensures)
+    let b = buffers (now (a .open-cells)) (now (a .finished-cells)) (now (a .open-samples)) (now (a .finished-samples)) in
+    cells-ready (a .state) b (now (a .r)) _ (d .before .right-sizes .ensures) _ (d .decide .ensures)
     _ (a .r .ptr) _ (p .packet-in .ensures)
 
 same-length : tie.Need-same-length

@@ -21,7 +21,9 @@ not-ended-requires : tie.Need-not-ended-requires
 not-ended-requires c κs = search needs
 
 returns : tie.Need-returns
-returns c = let a = c .before .before .args in is-unended (a .state) (a .sized) _ (off (a .sized) (listed (a .state)) (c .before .if1 .taken)) (c .not-ended .ensures)
+returns c =
+    let a = c .before .before .args in
+    is-unended (a .state) (a .sized) _ (off (a .sized) (listed (a .state)) (c .before .if1 .taken)) (c .not-ended .ensures)
 
 listed-requires : tie.Need-listed-requires
 listed-requires c κs = search needs
@@ -33,7 +35,8 @@ returns-2 : tie.Need-returns-2
 returns-2 c =
     let l = c .before .before in
     let a = l .before .before .args in
-    is-unended (a .state) (a .sized) _ (rw (not-false (a .sized) (l .before .if1 .left), fails (l .listed .ensures) (c .before .if2 .taken))) (c .not-ended2 .ensures)
+    is-unended (a .state) (a .sized) _
+    (rw (not-false (a .sized) (l .before .if1 .left), fails (l .listed .ensures) (c .before .if2 .taken))) (c .not-ended2 .ensures)
 
 no-accumulation-requires : tie.Need-no-accumulation-requires
 no-accumulation-requires c κs = search needs
@@ -63,7 +66,8 @@ returns-3 c =
     let o = r .before .before .before in
     let l = o .before .before .before .before .before in
     let a = l .before .before .args in
-    is-ended (a .state) (a .sized) _ (rw (not-false (a .sized) (l .before .if1 .left), held (l .listed .ensures) (o .before .before .before .before .if2 .left)))
+    is-ended (a .state) (a .sized) _
+    (rw (not-false (a .sized) (l .before .if1 .left), held (l .listed .ensures) (o .before .before .before .before .if2 .left)))
     (rw (
       c .closing-work2 .ensures,
       c .before .before .no-slot-work .ensures,
