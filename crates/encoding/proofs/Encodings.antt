@@ -13,16 +13,16 @@ use lib.Dec.{eqb, leb, ltb}
 use lib.ListN.{length, getD, take, drop, length-drop, take-append-drop, List·getD-eq-default, replicate}
 use lib.Seq.{take-all, take-at, drop-at, drop-cons, drop-drop, getD-take, getD-drop, length-take-le, ext-getD}
 use borrow.Author.Tests.{eq-eqb, le-leb, eqb-true, leb-true, ltb-true, ltb-false}
+use Rattle.tables.specs.Build.{build}
 use Rattle.tables.proofs.Conds.{two}
+use Rattle.tables.proofs.Built.{length-build, getD-build}
 use Rattle.bits.specs.Numbers.{wordIn}
 use Rattle.bits.specs.Twelve.{Bytes}
-use Rattle.state.specs.declared.State.{State}
-use Rattle.accumulation.specs.declared.Accumulation.{Accumulation}
 use Rattle.clock.specs.declared.Clock.{Clock}
+use Rattle.accumulation.specs.declared.Accumulation.{Accumulation}
 use Rattle.major.specs.declared.Major.{Major}
+use Rattle.state.specs.declared.State.{State}
 use Rattle.state.specs.List.{fresh}
-use Rattle.tables.specs.Build.{build}
-use Rattle.tables.proofs.Built.{length-build, getD-build}
 use Rattle.encoding.specs.Numbers.{spread, wordByte, wordsBytes, wordAt, wordsOf}
 use Rattle.encoding.specs.States.{clockSize, accumulationSize, majorSize, stateSize}
 use Rattle.encoding.specs.States.{flag, clockBytes, accumulationBytes, majorBytes, stateBytes}

@@ -13,6 +13,9 @@ use Rattle.buffers.specs.Copying.{copied}
 use Rattle.buffers.specs.Laying.{laid}
 use Rattle.buffers.proofs.Patches.{length-laid}
 use Rattle.record.specs.declared.Record.{Record}
+use Rattle.clock.specs.declared.Clock.{Clock}
+use Rattle.accumulation.specs.declared.Accumulation.{Accumulation}
+use Rattle.major.specs.declared.Major.{Major}
 use Rattle.state.specs.declared.State.{State}
 use Rattle.state.specs.declared.closed.Closed.{Closed}
 use Rattle.state.specs.declared.deciding.Answer.the-variants.{Refused, Accepted}
@@ -20,9 +23,6 @@ use Rattle.state.specs.declared.deciding.Stepped.{Stepped}
 use Rattle.state.specs.declared.deciding.Taken.{Taken}
 use Rattle.encoding.specs.Fields.{fieldsSize, fieldBytes}
 use Rattle.encoding.specs.Reports.{closedSize, closedBytes, gapNumber, takenSize, takenBytes, reportSize, reportBytes, reportWritten}
-use Rattle.accumulation.specs.declared.Accumulation.{Accumulation}
-use Rattle.clock.specs.declared.Clock.{Clock}
-use Rattle.major.specs.declared.Major.{Major}
 use Rattle.encoding.specs.Numbers.{spread, wordsBytes}
 use Rattle.encoding.specs.States.{clockSize, accumulationSize, majorSize, stateSize, written}
 use Rattle.encoding.specs.States.{flag, clockBytes, accumulationBytes, majorBytes, stateBytes}

@@ -8,10 +8,10 @@ use lib.ListN.{length, take, drop, length-drop}
 use lib.Seq.{take-all}
 use borrow.Author.Tests.{eq-eqb}
 use Rattle.bits.specs.Numbers.{wordIn}
-use Rattle.state.specs.declared.State.{State}
-use Rattle.accumulation.specs.declared.Accumulation.{Accumulation}
 use Rattle.clock.specs.declared.Clock.{Clock}
+use Rattle.accumulation.specs.declared.Accumulation.{Accumulation}
 use Rattle.major.specs.declared.Major.{Major}
+use Rattle.state.specs.declared.State.{State}
 use Rattle.encoding.specs.Numbers.{wordsOf}
 use Rattle.encoding.specs.States.{clockSize, accumulationSize, majorSize, stateSize, part, clockIn, accumulationIn, majorIn, majorOf, stateOf}
 

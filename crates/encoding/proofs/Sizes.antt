@@ -5,14 +5,14 @@ use mathlib.Core.List.{List}
 use Prim.Native.Nat.{ℕ, zero, suc}
 use native.Mathlib.Omega.{arith}
 use lib.ListN.{length, length-append}
+use Rattle.tables.proofs.Built.{length-build}
 use Rattle.record.specs.declared.Record.{Record}
-use Rattle.state.specs.declared.State.{State}
-use Rattle.accumulation.specs.declared.Accumulation.{Accumulation}
 use Rattle.clock.specs.declared.Clock.{Clock}
+use Rattle.accumulation.specs.declared.Accumulation.{Accumulation}
+use Rattle.major.specs.declared.Major.{Major}
+use Rattle.state.specs.declared.State.{State}
 use Rattle.state.specs.declared.closed.Closed.{Closed}
 use Rattle.state.specs.declared.deciding.Taken.{Taken}
-use Rattle.major.specs.declared.Major.{Major}
-use Rattle.tables.proofs.Built.{length-build}
 use Rattle.encoding.specs.Numbers.{spread, wordByte, wordsBytes}
 use Rattle.encoding.specs.Fields.{fieldsSize, fieldBytes}
 use Rattle.encoding.specs.States.{clockSize, accumulationSize, majorSize, stateSize}

@@ -6,12 +6,12 @@ use mathlib.Core.List.{List, _∷_, _++_}
 use lib.Dec.{eqb, leb}
 use lib.ListN.{length, getD, take, drop}
 use Rattle.bits.specs.Numbers.{wordIn}
+use Rattle.clock.specs.declared.Clock.{Clock}
+use Rattle.accumulation.specs.declared.Accumulation.{Accumulation}
 use Rattle.major.specs.Major.{noMajor}
+use Rattle.major.specs.declared.Major.{Major}
 use Rattle.state.specs.List.{fresh}
 use Rattle.state.specs.declared.State.{State}
-use Rattle.accumulation.specs.declared.Accumulation.{Accumulation}
-use Rattle.clock.specs.declared.Clock.{Clock}
-use Rattle.major.specs.declared.Major.{Major}
 use Rattle.encoding.specs.Numbers.{spread, wordsBytes, wordsOf}
 
 abbrev pub clockSize : ℕ

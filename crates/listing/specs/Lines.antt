@@ -5,8 +5,8 @@ use mathlib.Core.Bool.{cond, _&&_}
 use mathlib.Core.List.{List, [], _∷_, _++_}
 use lib.Count.{ones}
 use lib.Dec.{ltb}
-use Rattle.carriage.specs.Carriage.{scienceSize}
 use Rattle.mag.specs.Samples.{samplesSize}
+use Rattle.carriage.specs.Carriage.{scienceSize}
 use Rattle.accumulation.specs.declared.AccumulationReport.{AccumulationReport}
 use Rattle.major.specs.declared.Major.{Major}
 use Rattle.major.specs.declared.MajorReport.{MajorReport}

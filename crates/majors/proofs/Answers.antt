@@ -13,10 +13,10 @@ use lib.ListN.{length, getD}
 use borrow.Author.Tests.{eq-eqb, ne-eqb, lt-ltb, le-ltb, eqb-true, ltb-true, not-true, not-false}
 use Rattle.tables.proofs.Conds.{two}
 use Rattle.mag.specs.Samples.{samplesSize}
-use Rattle.cells.specs.Words.{said}
 use Rattle.mag.specs.Field.{fieldOf, isSample, hasField, fieldGiven, FieldIs, Answered}
 use Rattle.mag.specs.declared.nominal.Field.{Field}
 use Rattle.mag.specs.declared.nominal.Field.the-variants as field
+use Rattle.cells.specs.Words.{said}
 use Rattle.major.specs.declared.Major.{Major}
 use Rattle.major.specs.Major.{slots, frameSamples}
 use Rattle.majors.specs.Questions.{stored, isPlace, hasStored, hasNominal, magHeld, slotHeld, fieldAt}
