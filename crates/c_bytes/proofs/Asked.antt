@@ -11,16 +11,16 @@ use lib.IntN.{ℤ}
 use lib.ListN.{length, getD}
 use borrow.Author.Tests.{eq-eqb, ne-eqb}
 use Rattle.mag.specs.Field.{FieldIs}
-use Rattle.encoding.specs.States.{majorSize, majorOf}
+use Rattle.major.specs.Major.{slots}
 use Rattle.majors.specs.Questions.{stored, hasStored, hasNominal, magHeld, slotHeld, nominalGiven, fieldAt}
 use Rattle.majors.specs.Questions.{SampleIs, WordIs, NominalIs}
-use Rattle.major.specs.Major.{slots}
 use Rattle.majors.specs.declared.Nominal.{Nominal}
 use Rattle.majors.specs.declared.Nominal.the-variants as nominal
 use Rattle.majors.specs.declared.Sample.{Sample}
 use Rattle.majors.specs.declared.Sample.the-variants as sample
 use Rattle.majors.specs.declared.Word.{Word}
 use Rattle.majors.specs.declared.Word.the-variants as word
+use Rattle.encoding.specs.States.{majorSize, majorOf}
 use Rattle.c_answers.specs.Answers.{nowhere, wordsNumber, ValueGiven}
 use Rattle.c_answers.proofs.Outcomes.{told}
 use Rattle.c_bytes.specs.Frames.{framed, WordGiven, SampleGiven, NominalGiven}

@@ -7,13 +7,13 @@ use Prim.Native.Nat.{ℕ}
 use lib.Ieee.{Float}
 use lib.IntN.{ℤ}
 use Rattle.tables.proofs.Single.{one}
-use Rattle.c_answers.proofs.Single.{where-zero, one-value}
 use Rattle.state.specs.Deciding.{decidedOf}
 use Rattle.state.specs.Ending.{endedOf}
 use Rattle.reader.specs.Buffers.{Buffers, sized}
 use Rattle.reader.specs.Steps.{input}
 use Rattle.encoding.specs.States.{stateOf, stateBytes}
 use Rattle.encoding.specs.Reports.{closedBytes}
+use Rattle.c_answers.proofs.Single.{where-zero, one-value}
 use Rattle.c_bytes.specs.Reading.{StepGiven, FinishGiven}
 use Rattle.c_bytes.specs.Frames.{NominalGiven}
 

@@ -9,9 +9,9 @@ use lib.Ieee.{Float}
 use lib.IntN.{ℤ}
 use lib.ListN.{length, getD}
 use Rattle.mag.specs.Field.{FieldIs}
-use Rattle.encoding.specs.States.{majorSize, majorOf}
-use Rattle.majors.specs.Questions.{stored, hasStored, hasNominal, magHeld, slotHeld, fieldAt}
 use Rattle.major.specs.Major.{slots}
+use Rattle.majors.specs.Questions.{stored, hasStored, hasNominal, magHeld, slotHeld, fieldAt}
+use Rattle.encoding.specs.States.{majorSize, majorOf}
 use Rattle.c_answers.specs.Answers.{ValueGiven}
 
 -- bytes of a major frame, and what is asked for has a place

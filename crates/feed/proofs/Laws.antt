@@ -9,8 +9,8 @@ use native.Mathlib.Omega.{arith}
 use lib.ListN.{length, take, drop, length-drop, length-append}
 use lib.Seq.{drop-drop, take-append-le, drop-append-le, take-at}
 use borrow.Author.Tests.{le-leb, lt-leb}
-use Rattle.record.specs.Layout.{size}
 use Rattle.buffers.specs.Laying.{patch}
+use Rattle.record.specs.Layout.{size}
 use Rattle.feed.specs.Cutting.{recordAt, isWhole, RestIs}
 use Rattle.feed.specs.Feeding.{begun, isQuiet, quiet, Desk, next, feedUpTo, wholeFrom, feedAll}
 use Rattle.feed.proofs.Cuts.{record-room, whole-fits, whole-left}

@@ -1,7 +1,7 @@
 // Whole records fed to the reader.
 ghost use mathlib.Core.Path.{_≡_};
-ghost use Rattle.reader.specs.Buffers.{buffers};
 ghost use Rattle.state.specs.Deciding.{answerNumber};
+ghost use Rattle.reader.specs.Buffers.{buffers};
 ghost use Rattle.feed.specs.Feeding.{begun, isQuiet, OneIs, FeedIs};
 use crate::cutting::cut;
 use crate::cutting::is_whole;

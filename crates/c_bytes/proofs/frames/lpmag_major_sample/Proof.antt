@@ -1,8 +1,8 @@
 -- `c_bytes::frames::lpmag_major_sample` meets its contract.
 -- Assumes nothing.
 use denote.Ref.{now}
-use Rattle.encoding.specs.States.{majorOf}
 use Rattle.majors.specs.Questions.{stored, hasStored, magHeld}
+use Rattle.encoding.specs.States.{majorOf}
 use Rattle.c_bytes.proofs.Asked.{sample-told, no-frame}
 use mathlib.Core.Path.{_≡_}
 use mir.Syntax.{w16}

@@ -3,9 +3,9 @@
 use lib.Dec.{ltb}
 use lib.ListN.{getD}
 use denote.Ref.{now}
-use Rattle.encoding.specs.States.{majorOf}
-use Rattle.majors.specs.Questions.{slotHeld}
 use Rattle.major.specs.Major.{slots}
+use Rattle.majors.specs.Questions.{slotHeld}
+use Rattle.encoding.specs.States.{majorOf}
 use Rattle.c_bytes.proofs.Asked.{word-told, no-frame}
 use borrow.Author.Needs.{needs}
 use Rattle.c_bytes.proofs.frames.lpmag_major_word.Statement.{statement}
