@@ -115,7 +115,8 @@ module _ {ℓ} {A : Type ℓ} where
       let m = at + length s in
       let l : length (take n b) ≡ n = length-take-le n b (simp length-drop (omega arith)) in
       let r = drop m (take n b) in
-      let c : ys ≡ take at b ++ (s ++ r) = q ∙ laid-in s (take n b) at (omega (arith, l)) ∙ ap (λ (x : List A). x ++ (s ++ r)) (take-take at n b (omega arith)) in
+      let g : take at (take n b) ≡ take at b = take-take at n b (omega arith) in
+      let c : ys ≡ take at b ++ (s ++ r) = q ∙ laid-in s (take n b) at (omega (arith, l)) ∙ ap (λ (x : List A). x ++ (s ++ r)) g in
       let e : r ++ drop n b ≡ drop m b = sym (drop-append-le m (take n b) (drop n b) (omega (arith, l))) ∙ ap (drop m) (take-append-drop n b) in
       let f : (s ++ r) ++ drop n b ≡ s ++ drop m b = append-assoc s r (drop n b) ∙ ap (λ (x : List A). s ++ x) e in
       ap (λ (x : List A). take a d ++ (x ++ drop n b)) c
