@@ -152,7 +152,8 @@ module _ {A : Type 0} {p : Part A} (P : PartLaw p) where
       go true t e = (a, refl, Option·some-injective (to a) w e, t)
       go false t e = absurd (Option·some-ne-none w (sym e))
 
-  -- The two ways undo each other: from and back on what the part holds, to and back on what passes the test.
+  -- Asked of the two ways: what the part holds and passes the test when seen goes back to itself, and what passes the test and the part
+  -- holds when it goes back is seen as itself.
   module _
       {B : Type 0} (to : A → B) (from : B → A) (good : B → Bool)
       (one : (a : A) → p .Holds a → good (to a) ≡ true → from (to a) ≡ a)
@@ -176,7 +177,7 @@ module _ {A : Type 0} {p : Part A} (P : PartLaw p) where
   limited-law good = seen-law (λ v. v) (λ v. v) good (λ a h k. refl) (λ v h k. refl)
 
 -- Pairs one by one, and two by two again.
-twos-same : {A : Type 0} (vs : List (A × A)) → byTwos (oneByOne vs) ≡ vs
+pub twos-same : {A : Type 0} (vs : List (A × A)) → byTwos (oneByOne vs) ≡ vs
 unfolding byTwos oneByOne
 twos-same [] = refl
 twos-same {A = A} (v ∷ vs) = ap (λ (us : List (A × A)). v ∷ us) (twos-same vs)

@@ -1,14 +1,17 @@
 -- Where the parts of a whole stand, and a room that is filled part after part.
 -- Assumes nothing.
+use mathlib.Core.Bool.{true}
 use mathlib.Core.List.{List, [], _∷_, _++_, append-assoc, append-nil}
 use mathlib.Core.Option.{Option, none, some}
-use mathlib.Core.Path.{_≡_, refl, sym, ap, _∙_}
+use mathlib.Core.Path.{_≡_, refl, sym, ap, subst, _∙_}
 use Prim.Native.Nat.{ℕ, zero, suc, _+_, _-_, _*_, _<_, _≤_}
 use native.Mathlib.Nat.{add-assoc, add-comm, add-zero, zero-mul, suc-mul}
 use native.Mathlib.Numerals.{add-one}
 use native.Mathlib.Omega.{arith}
+use lib.Dec.{eqb}
 use lib.ListN.{length, getD, take, drop, length-append, length-drop, take-append-drop}
 use lib.Seq.{take-at, drop-at, drop-drop, take-add, take-take, length-take-le}
+use borrow.Author.Tests.{eq-eqb}
 use Rattle.tables.specs.Build.{build}
 use Rattle.tables.specs.Every.{Every}
 use Rattle.tables.proofs.Built.{length-build}
@@ -16,8 +19,8 @@ use Rattle.tables.proofs.Every.{every-joined}
 use Rattle.buffers.specs.Laying.{patch}
 use Rattle.buffers.proofs.Patches.{length-patch, patch-none, patch-then}
 use Rattle.formats.specs.Part.{Part, PartLaw, readAt}
-use Rattle.formats.specs.Wholes.{together, pair, _then_, writeAll, readAll, ThenAt, TimesAt}
-use Rattle.formats.proofs.Laws.{all-sized}
+use Rattle.formats.specs.Wholes.{together, pair, _then_, writeAll, readAll, _times_, byTwos, oneByOne, ThenAt, TimesAt, TwosAt}
+use Rattle.formats.proofs.Laws.{all-sized, twos-same}
 
 -- a room keeps its length
 pub length-written : {A : Type 0} {p : Part A} → PartLaw p → (room : List ℕ) (at : ℕ) (v : A) → p .Holds v → at + p .size ≤ length room
@@ -144,3 +147,37 @@ module _ {A : Type 0} {p : Part A} (P : PartLaw p) where
     told = λ b at n f h k. told n b at f h k;
     refused = λ b at n k h l e. refused n b at k h l e;
   }
+
+-- singles, and the pairs that they are
+module _ {A : Type 0} (f : ℕ → A) where
+  abbrev pairAt : ℕ → A × A
+  pairAt j = (f (2 * j), f (2 * j + 1))
+
+  ones-append : (us vs : List (A × A)) → oneByOne (us ++ vs) ≡ oneByOne us ++ oneByOne vs
+  unfolding oneByOne
+  ones-append [] vs = refl
+  ones-append (u ∷ us) vs = ap (λ (xs : List A). u .0 ∷ (u .1 ∷ xs)) (ones-append us vs)
+
+  ones-build : (n : ℕ) → oneByOne (build pairAt n) ≡ build f (2 * n)
+  unfolding build oneByOne
+  ones-build zero = refl
+  ones-build (suc n) =
+      let e : 2 * suc n ≡ suc (suc (2 * n)) = omega arith in
+      rw e
+      (ones-append (build pairAt n) (pairAt n ∷ [])
+      ∙ ap (λ (xs : List A). xs ++ (f (2 * n) ∷ (f (2 * n + 1) ∷ []))) (ones-build n)
+      ∙ rw (add-one (2 * n)) (sym (append-assoc (build f (2 * n)) (f (2 * n) ∷ []) (f (suc (2 * n)) ∷ []))))
+
+  twos-build : (n : ℕ) → build pairAt n ≡ byTwos (build f (2 * n))
+  twos-build n = sym (twos-same (build pairAt n)) ∙ ap byTwos (ones-build n)
+
+  all-there : (n : ℕ) → eqb (length (build f (2 * n))) (2 * n) ≡ true
+  all-there n = eq-eqb (length (build f (2 * n))) (2 * n) (length-build f (2 * n))
+
+pub twos-at : {A : Type 0} {p : Part (A × A)} → PartLaw p → TwosAt p
+twos-at {A = A} {p = p} P = record {
+  held = λ n f h.
+      (all-there f n, subst (λ (vs : List (A × A)). (n times p) .Holds vs) (twos-build f n) (length-build (pairAt f) n, every-build P (pairAt f) n h));
+  written = λ n f. ap (writeAll p) (sym (twos-build f n));
+  told = λ b at n f l h. rw (times-at P .told b at n (pairAt f) l h, ones-build f n, all-there f n);
+}

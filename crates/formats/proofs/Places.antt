@@ -1,19 +1,17 @@
 -- Fields in a room and in bytes: what bits' definitions write is the field laid over the room, and what they read is the field read
 -- at its place.
 -- Assumes nothing.
-use mathlib.Core.List.{List, [], _∷_, _++_, append-assoc}
+use mathlib.Core.List.{List}
 use mathlib.Core.Option.{some}
-use mathlib.Core.Path.{_≡_, refl, sym, ap, _∙_}
-use Prim.Native.Nat.{ℕ, zero, suc, _+_, _*_, _<_, _≤_}
+use mathlib.Core.Path.{_≡_, sym, ap, _∙_}
+use Prim.Native.Nat.{ℕ, _+_, _*_, _<_, _≤_}
 use native.Mathlib.Nat.{add-zero, mul-comm}
 use native.Mathlib.Numerals.{add-one}
 use native.Mathlib.Omega.{arith}
 use lib.IntN.{ℤ}
 use lib.ListN.{length, getD, set, take, drop, length-drop}
 use lib.Seq.{set-split, drop-drop, getD-take, getD-drop, length-take-le}
-use borrow.Author.Tests.{eq-eqb}
 use Rattle.tables.specs.Build.{build}
-use Rattle.tables.proofs.Built.{length-build}
 use Rattle.buffers.specs.Laying.{patch}
 use Rattle.buffers.proofs.Patches.{laid-in}
 use Rattle.bits.specs.Numbers.{Order, most, wordIn, twelveIn}
@@ -24,11 +22,11 @@ use Rattle.bits.proofs.BytesOf.{length-bytes}
 use Rattle.bits.proofs.WordsPut.{word-part, narrow}
 use Rattle.bits.proofs.SignedPut as signed
 use Rattle.bits.proofs.PairsPut as pairs
-use Rattle.formats.specs.Part.{Part, PartLaw, readAt}
-use Rattle.formats.specs.Wholes.{oneByOne, _twos_}
+use Rattle.formats.specs.Part.{readAt}
+use Rattle.formats.specs.Wholes.{_twos_}
 use Rattle.formats.specs.Fields.{word, byte, signed16, pairOf}
 use Rattle.formats.proofs.Fields.{exact, exact-pair, pair-law}
-use Rattle.formats.proofs.Offsets.{times-at}
+use Rattle.formats.proofs.Offsets.{twos-at}
 
 -- Each kind written into a room, where it lies wholly in it.
 module _ (room : List ℕ) (at : ℕ) where
@@ -73,32 +71,9 @@ module _ (b : List ℕ) (at : ℕ) where
   byte-read = ap some (getD-take 1 (drop at b) 0 0 (omega arith) ∙ getD-drop at b 0 0 ∙ ap (λ (k : ℕ). getD b k 0) (add-zero at))
 
 -- n pairs of 12-bit numbers, one by one: those that stand from there on
-module _ {A : Type 0} where
-  ones-append : (us vs : List (A × A)) → oneByOne (us ++ vs) ≡ oneByOne us ++ oneByOne vs
-  unfolding oneByOne
-  ones-append [] vs = refl
-  ones-append (u ∷ us) vs = ap (λ (xs : List A). u .0 ∷ (u .1 ∷ xs)) (ones-append us vs)
-
-  ones-build : (f : ℕ → A) (n : ℕ) → oneByOne (build (λ j. (f (2 * j), f (2 * j + 1))) n) ≡ build f (2 * n)
-  unfolding build oneByOne
-  ones-build f zero = refl
-  ones-build f (suc n) =
-      let g : ℕ → A × A = λ j. (f (2 * j), f (2 * j + 1)) in
-      let e : 2 * suc n ≡ suc (suc (2 * n)) = omega arith in
-      rw e
-      (ones-append (build g n) (g n ∷ [])
-      ∙ ap (λ (xs : List A). xs ++ (f (2 * n) ∷ (f (2 * n + 1) ∷ []))) (ones-build f n)
-      ∙ rw (add-one (2 * n)) (sym (append-assoc (build f (2 * n)) (f (2 * n) ∷ []) (f (suc (2 * n)) ∷ []))))
-
-pub twos-read : {A : Type 0} {p : Part (A × A)} → PartLaw p → (b : List ℕ) (at n : ℕ) (f : ℕ → A) → at + n * p .size ≤ length b
-    → ((k : ℕ) → k < n → readAt p b (at + k * p .size) ≡ some (f (2 * k), f (2 * k + 1)))
-    → readAt (n twos p) b at ≡ some (build f (2 * n))
-twos-read P b at n f l h =
-    rw (times-at P .told b at n (λ j. (f (2 * j), f (2 * j + 1))) l h, ones-build f n, eq-eqb (length (build f (2 * n))) (2 * n) (length-build f (2 * n)))
-
 pub twelves-read : (o : Order) (b : List ℕ) (at n : ℕ) → at + n * 3 ≤ length b
     → readAt (n twos pairOf o) b at ≡ some (build (twelveIn o (drop at b)) (2 * n))
-twelves-read o b at n l = twos-read (pair-law o) b at n (twelveIn o (drop at b)) l each
+twelves-read o b at n l = twos-at (pair-law o) .told b at n (twelveIn o (drop at b)) l each
   where
     each : (k : ℕ) → k < n → readAt (pairOf o) b (at + k * 3) ≡ some (twelveIn o (drop at b) (2 * k), twelveIn o (drop at b) (2 * k + 1))
     each k h =

@@ -1,5 +1,5 @@
 -- Wholes are parts again: one part and then another, a part so many times, and a part whose value is seen as another or must pass
--- a test. Sizes and offsets follow from the parts in order: `ThenAt` and `TimesAt`.
+-- a test. Sizes and offsets follow from the parts in order: `ThenAt`, `TimesAt` and `TwosAt`.
 -- Assumes nothing.
 use mathlib.Core.Bool.{Bool, true, cond}
 use mathlib.Core.List.{List, [], _∷_, _++_}
@@ -125,3 +125,16 @@ pub record TimesAt {A : Type 0} (p : Part A) : Type 0 where
       → k < n
       → readAt p b (at + k * p .size) ≡ none
       → readAt (n times p) b at ≡ none
+
+-- singles 2j and 2j + 1 are pair j: they are held where each pair is, written as the pairs are, and read pair by pair. Proved as
+-- `twos-at` in proofs/Offsets.antt
+pub record TwosAt {A : Type 0} (p : Part (A × A)) : Type 0 where
+  pub held :
+      (n : ℕ) (f : ℕ → A) → ((j : ℕ) → j < n → p .Holds (f (2 * j), f (2 * j + 1))) → (n twos p) .Holds (build f (2 * n))
+  pub written :
+      (n : ℕ) (f : ℕ → A) → (n twos p) .write (build f (2 * n)) ≡ (n times p) .write (build (λ j. (f (2 * j), f (2 * j + 1))) n)
+  pub told :
+      (b : List ℕ) (at n : ℕ) (f : ℕ → A)
+      → at + (n twos p) .size ≤ length b
+      → ((k : ℕ) → k < n → readAt p b (at + k * p .size) ≡ some (f (2 * k), f (2 * k + 1)))
+      → readAt (n twos p) b at ≡ some (build f (2 * n))
