@@ -9,7 +9,7 @@ use native.Mathlib.Nat.{add-assoc, add-comm, add-zero, zero-mul, suc-mul}
 use native.Mathlib.Numerals.{add-one}
 use native.Mathlib.Omega.{arith}
 use lib.Dec.{eqb}
-use lib.ListN.{length, getD, take, drop, length-append, length-drop, take-append-drop}
+use lib.ListN.{length, getD, take, drop, length-drop}
 use lib.Seq.{take-at, drop-at, drop-drop, take-add, take-take, length-take-le}
 use borrow.Author.Tests.{eq-eqb}
 use Rattle.tables.specs.Build.{build}
