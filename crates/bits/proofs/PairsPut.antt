@@ -9,14 +9,14 @@ use native.Mathlib.Nat.{zero-add}
 use native.Mathlib.Omega.{arith}
 use lib.Dec.{leb, ltb}
 use lib.ListN.{length, take, drop, length-drop}
-use lib.Seq.{length-take-le}
-use borrow.Author.Tests.{leb-true, leb-false, le-leb, lt-ltb, le-ltb}
+use lib.Seq.{length-take-le, take-length}
+use borrow.Author.Tests.{leb-true, leb-false, le-leb, lt-leb, lt-ltb, le-ltb}
 use Rattle.buffers.specs.Laying.{laid}
 use Rattle.buffers.proofs.Patches.{length-laid}
 use Rattle.bits.specs.Numbers.{Order, least, most, join, number, twelve, twelveIn}
 use Rattle.bits.specs.Twelve.{Bytes}
 use Rattle.bits.specs.Putting.{bytesOf, OwnOnly}
-use Rattle.bits.specs.Pairs.{pairBytes, pairPut, PairLaw}
+use Rattle.bits.specs.Pairs.{pairBytes, pairPut, PairLaw, PairPlaces}
 use Rattle.bits.proofs.Joins.{join-below, join-same}
 use Rattle.bits.proofs.Numbers.{below, split}
 use Rattle.bits.proofs.BytesOf.{length-bytes, are-bytes, bytes-back, bytes-forth, bytes-part, number-part}
@@ -114,6 +114,23 @@ law o room at x y = record {
   wide = too-wide o room at x y;
   only = pair-forth o x y;
 }
+
+pub places : PairPlaces
+places o b j k = go (leb (12 * (2 * j + k) + 12) (8 * length b)) refl
+  where
+    r : List ℕ
+    r = drop (3 * j) b
+
+    go : (t : Bool) → leb (12 * (2 * j + k) + 12) (8 * length b) ≡ t → twelveIn o r k ≡ twelveIn o b (2 * j + k)
+    go true t =
+        let h = leb-true (12 * (2 * j + k) + 12) (8 * length b) t in
+        let l : 12 * k + 12 ≤ 8 * length r = omega (arith, length-drop (3 * j) b) in
+        let e : 12 * (2 * j + k) ≡ 8 * (3 * j) + 12 * k = omega arith in
+        let f : number o (take (length r) r) (12 * k) 12 ≡ twelve o r k = ap (λ (x : List ℕ). twelve o x k) (take-length r) in
+        rw (t, le-leb (12 * k + 12) (8 * length r) l, e) (sym (number-part o b (3 * j) (length r) (12 * k) 12 l ∙ f))
+    go false t =
+        let h = leb-false (12 * (2 * j + k) + 12) (8 * length b) t in
+        rw (t, lt-leb (12 * k + 12) (8 * length r) (omega (arith, length-drop (3 * j) b)))
 
 -- as the code computes it
 module _ (room : List ℕ) (at x y : ℕ) (h : x < 4096) (k : y < 4096) where

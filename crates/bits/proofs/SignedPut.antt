@@ -1,18 +1,24 @@
 -- The law of signed 16-bit numbers, and what their code computes.
 -- Assumes nothing.
-use mathlib.Core.Bool.{Bool, true, false, false≢true}
+use mathlib.Core.Bool.{Bool, true, false, cond, false≢true}
+use mathlib.Core.List.{List}
 use mathlib.Core.Path.{_≡_, refl, sym, ap, _∙_}
-use Prim.Native.Nat.{ℕ, suc, _-_, _<_, _≤_}
+use Prim.Native.Nat.{ℕ, suc, _+_, _-_, _<_, _≤_}
 use native.Mathlib.Omega.{arith}
 use lib.Dec.{T, ltb}
 use lib.IntN.{ℤ, pos, negsuc, natAbs, _+ℤ_, _-ℤ_}
-use lib.Signed.{ltZ, nonNeg}
+use lib.ListN.{length}
+use lib.Signed.{ltZ, nonNeg, mag}
 use mir.Syntax.{w16, w32}
 use mir.Val.{Fits, SFits, toZ, ofZ}
 use mir.ValLaws.{toZ-pos, toZ-ofZ}
 use borrow.Author.Tests.{lt-ltb, le-ltb, ltb-true, ltb-false}
-use Rattle.bits.specs.Numbers.{wordIn}
-use Rattle.bits.specs.Signed.{signedOf, unsignedOf, InSixteen, SignedLaw}
+use Rattle.bits.specs.Numbers.{most, wordIn}
+use Rattle.bits.specs.Twelve.{Bytes}
+use Rattle.bits.specs.Putting.{bytesOf, wordPut, OwnOnly}
+use Rattle.bits.specs.Signed.{signedOf, unsignedOf, InSixteen, signedIn, signedPut, SignedLaw}
+use Rattle.bits.proofs.BytesOf.{length-bytes}
+use Rattle.bits.proofs.Rooms.{own-only}
 use Rattle.bits.proofs.WordBytes.{small-word}
 use Rattle.bits.proofs.WordsPut as words
 
@@ -37,12 +43,46 @@ signed-forth w h = go (ltb w 32768) refl
     go true t = rw t
     go false t = rw (t, less w h) (omega (arith, ltb-false w 32768 t))
 
+-- what a word stands for is never too wide
+pub signed-fits : (w : ℕ) → w < 65536 → InSixteen (signedOf w)
+signed-fits w h = go (ltb w 32768) refl
+  where
+    go : (t : Bool) → ltb w 32768 ≡ t → InSixteen (signedOf w)
+    go true t = rw t (ltb-true w 32768 t)
+    go false t = rw (t, less w h) (omega (arith, ltb-false w 32768 t))
+
+module _ (room : List ℕ) (at : ℕ) where
+  -- written where it is not too wide
+  pub narrow : (z : ℤ) → InSixteen z → wordPut room at 2 (unsignedOf z) ≡ signedPut room at z
+  unfolding signedPut
+  narrow z h = rw (lt-ltb (mag z) 32768 h)
+
+  too-wide : (z : ℤ) → 32768 ≤ mag z → signedPut room at z ≡ room
+  unfolding signedPut
+  too-wide z h = rw (le-ltb (mag z) 32768 h)
+
+  own : (z : ℤ) → OwnOnly room (signedPut room at z) at 2
+  unfolding signedPut
+  own z = go (ltb (mag z) 32768)
+    where
+      w : ℕ
+      w = unsignedOf z
+
+      go : (t : Bool) → OwnOnly room (cond t (wordPut room at 2 w) room) at 2
+      go true = words.law room at 2 w .own
+      go false = own-only room at false (bytesOf most 2 w) 2 (length-bytes most 2 w)
+
+  back : (z : ℤ) → at + 2 ≤ length room → InSixteen z → signedIn (signedPut room at z) at ≡ z
+  back z h k = rw (← narrow z k, words.law room at 2 (unsignedOf z) .back h (unsigned-small z k)) (signed-back z k)
+
+  forth : Bytes room → signedPut room at (signedIn room at) ≡ room
+  forth h =
+      let w = wordIn room at 2 in
+      let l = small-word room at 2 in
+      sym (narrow (signedOf w) (signed-fits w l)) ∙ rw (signed-forth w l) (words.law room at 2 0 .forth h)
+
 pub law : SignedLaw
-law room at z = record {
-  back = λ h k. rw (words.law room at 2 (unsignedOf z) .back h (unsigned-small z k)) (signed-back z k);
-  forth = λ h. rw (signed-forth (wordIn room at 2) (small-word room at 2)) (words.law room at 2 0 .forth h);
-  own = words.law room at 2 (unsignedOf z) .own;
-}
+law room at z = record { back = back room at z; forth = forth room at; own = own room at z; wide = too-wide room at z }
 
 -- From a word: below 2 ^ 15 it is the number.
 pub low : (w : ℕ) → w < 32768 → toZ w16 w ≡ signedOf w

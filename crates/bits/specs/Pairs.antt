@@ -1,10 +1,10 @@
--- Two 12-bit numbers written as three bytes, in either order: the law is `PairLaw`.
+-- Two 12-bit numbers written as three bytes, in either order: the law is `PairLaw`; `PairPlaces` says which numbers they are.
 -- Assumes nothing.
 use mathlib.Core.Bool.{cond, _&&_}
 use mathlib.Core.List.{List}
 use mathlib.Core.Logic.{_⊎_}
 use mathlib.Core.Path.{_≡_}
-use Prim.Native.Nat.{ℕ, _+_, _<_, _≤_}
+use Prim.Native.Nat.{ℕ, _+_, _*_, _<_, _≤_}
 use lib.Dec.{ltb}
 use lib.ListN.{length, drop}
 use Rattle.buffers.specs.Laying.{laid}
@@ -34,3 +34,8 @@ pub record PairWritten (o : Order) (room : List ℕ) (at x y : ℕ) : Type 0 whe
 -- the law, proved as `law` in proofs/PairsPut.antt: for either order
 abbrev pub PairLaw : Type 0
 PairLaw = (o : Order) (room : List ℕ) (at x y : ℕ) → PairWritten o room at x y
+
+-- the pair at byte 3j is the numbers at places 2j and 2j + 1, and so on from there: number k of the bytes from byte 3j on is the one at
+-- place 2j + k. Proved as `places` in proofs/PairsPut.antt, for either order
+abbrev pub PairPlaces : Type 0
+PairPlaces = (o : Order) (b : List ℕ) (j k : ℕ) → twelveIn o (drop (3 * j) b) k ≡ twelveIn o b (2 * j + k)

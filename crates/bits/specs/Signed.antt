@@ -29,15 +29,17 @@ InSixteen z = mag z < 32768
 abbrev pub signedIn : List ℕ → ℕ → ℤ
 signedIn b at = signedOf (wordIn b at 2)
 
--- the room with the number at place `at`, or as found where it doesn't lie wholly in it
-abbrev pub signedPut : List ℕ → ℕ → ℤ → List ℕ
-signedPut room at z = wordPut room at 2 (unsignedOf z)
+-- the room with the number at place `at`; the room as found where its bytes don't lie wholly in it or the number is too wide
+unfoldable pub signedPut : List ℕ → ℕ → ℤ → List ℕ
+signedPut room at z = cond (ltb (mag z) 32768) (wordPut room at 2 (unsignedOf z)) room
 
--- of a number written: it reads back; one written as it was read changes nothing; only its own bytes change
+-- of a number written: it reads back; one written as it was read changes nothing; only its own bytes change; one too wide isn't
+-- written
 pub record SignedWritten (room : List ℕ) (at : ℕ) (z : ℤ) : Type 0 where
   pub back : at + 2 ≤ length room → InSixteen z → signedIn (signedPut room at z) at ≡ z
   pub forth : Bytes room → signedPut room at (signedIn room at) ≡ room
   pub own : OwnOnly room (signedPut room at z) at 2
+  pub wide : 32768 ≤ mag z → signedPut room at z ≡ room
 
 -- the law, proved as `law` in proofs/SignedPut.antt
 abbrev pub SignedLaw : Type 0

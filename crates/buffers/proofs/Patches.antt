@@ -2,13 +2,13 @@
 -- Assumes nothing.
 use mathlib.Core.Path.{_≡_, refl, sym, ap, _∙_}
 use mathlib.Core.Bool.{Bool, true, false, not, cond}
-use mathlib.Core.List.{List, _++_, append-assoc}
+use mathlib.Core.List.{List, [], _++_, append-assoc}
 use Prim.Native.Nat.{ℕ, _+_, _-_, _<_, _≤_}
-use native.Mathlib.Nat.{add-assoc}
+use native.Mathlib.Nat.{add-assoc, add-zero}
 use native.Mathlib.Omega.{arith}
 use lib.Dec.{leb}
 use lib.ListN.{length, getD, take, drop, length-append, length-drop, take-append-drop, List·getD-append}
-use lib.Seq.{length-take-le, take-add, take-take, drop-append-le, drop-drop, getD-append-add, getD-take, getD-drop}
+use lib.Seq.{length-take-le, take-at, drop-at, take-add, take-take, drop-append-le, drop-drop, getD-append-add, getD-take, getD-drop}
 use borrow.Author.Tests.{le-leb, lt-leb, leb-true, leb-false, eq-eqb, not-true, not-false}
 use Rattle.buffers.specs.Copying.{copied}
 use Rattle.buffers.specs.Laying.{patch, hasRoom, laid}
@@ -72,6 +72,31 @@ module _ {ℓ} {A : Type ℓ} where
       go true e = length-patch d at s (leb-true (at + length s) (length d) e)
       go false e = refl
 
+  -- nothing laid over a list
+  pub patch-none : (d : List A) (at : ℕ) → patch d at [] ≡ d
+  unfolding patch
+  patch-none d at = rw (add-zero at) (take-append-drop at d)
+
+  -- one list laid over another, and then a second after it
+  pub patch-then : (d : List A) (at : ℕ) (s t : List A) → at + length s ≤ length d → patch (patch d at s) (at + length s) t ≡ patch d at (s ++ t)
+  unfolding patch
+  patch-then d at s t h =
+      let m = at + length s in
+      let a = take at d ++ s in
+      let r = drop m d in
+      let x = take at d ++ (s ++ r) in
+      let e : x ≡ a ++ r = sym (append-assoc (take at d) s r) in
+      let l : length a ≡ m = length-append (take at d) s ∙ ap (λ (n : ℕ). n + length s) (front d at s h) in
+      let f : take m x ≡ a = ap (take m) e ∙ take-at a r m l in
+      let g : drop (m + length t) x ≡ drop (m + length t) d =
+      sym (drop-drop (length t) m x) ∙ ap (λ (y : List A). drop (length t) (drop m y)) e ∙ ap (drop (length t)) (drop-at a r m l) ∙ drop-drop (length t) m d in
+      let k : m + length t ≡ at + length (s ++ t) = add-assoc at (length s) (length t) ∙ ap (λ (n : ℕ). at + n) (sym (length-append s t)) in
+      ap (λ (y : List A). y ++ (t ++ drop (m + length t) x)) f
+      ∙ ap (λ (y : List A). a ++ (t ++ y)) g
+      ∙ append-assoc (take at d) s (t ++ drop (m + length t) d)
+      ∙ ap (λ (y : List A). take at d ++ y) (sym (append-assoc s t (drop (m + length t) d)))
+      ∙ ap (λ (n : ℕ). take at d ++ ((s ++ t) ++ drop n d)) k
+
   -- what was copied into a part is laid over the whole
   pub part-copied : (s d : List A) (at n : ℕ) (ys : List A) → n ≡ length s → at + length s ≤ length d → ys ≡ copied s (take n (drop at d))
       → take at d ++ (ys ++ drop n (drop at d)) ≡ laid s d at
@@ -89,16 +114,13 @@ module _ {ℓ} {A : Type ℓ} where
       let b = drop a d in
       let m = at + length s in
       let l : length (take n b) ≡ n = length-take-le n b (simp length-drop (omega arith)) in
-      let t = drop n b in
-      let y = drop m (take n b) in
-      let c : ys ≡ take at b ++ (s ++ y) =
-      q ∙ laid-in s (take n b) at (omega (arith, l)) ∙ ap (λ (x : List A). x ++ (s ++ y)) (take-take at n b (omega arith)) in
-      let e : y ++ t ≡ drop m b = sym (drop-append-le m (take n b) t (omega (arith, l))) ∙ ap (drop m) (take-append-drop n b) in
-      let f : (take at b ++ (s ++ y)) ++ t ≡ take at b ++ (s ++ drop m b) =
-      append-assoc (take at b) (s ++ y) t
-      ∙ ap (λ (x : List A). take at b ++ x) (append-assoc s y t ∙ ap (λ (x : List A). s ++ x) e) in
-      ap (λ (x : List A). take a d ++ (x ++ t)) c
-      ∙ ap (λ (x : List A). take a d ++ x) f
+      let r = drop m (take n b) in
+      let g : take at (take n b) ≡ take at b = take-take at n b (omega arith) in
+      let c : ys ≡ take at b ++ (s ++ r) = q ∙ laid-in s (take n b) at (omega (arith, l)) ∙ ap (λ (x : List A). x ++ (s ++ r)) g in
+      let e : r ++ drop n b ≡ drop m b = sym (drop-append-le m (take n b) (drop n b) (omega (arith, l))) ∙ ap (drop m) (take-append-drop n b) in
+      let f : (s ++ r) ++ drop n b ≡ s ++ drop m b = append-assoc s r (drop n b) ∙ ap (λ (x : List A). s ++ x) e in
+      ap (λ (x : List A). take a d ++ (x ++ drop n b)) c
+      ∙ ap (λ (x : List A). take a d ++ x) (append-assoc (take at b) (s ++ r) (drop n b) ∙ ap (λ (x : List A). take at b ++ x) f)
       ∙ sym (append-assoc (take a d) (take at b) (s ++ drop m b))
       ∙ ap (λ (x : List A). x ++ (s ++ drop m b)) (sym (take-add a at d))
       ∙ ap (λ (x : List A). take (a + at) d ++ (s ++ x)) (drop-drop m a d ∙ ap (λ (x : ℕ). drop x d) (sym (add-assoc a at (length s))))

@@ -3,7 +3,7 @@
 use mathlib.Core.Bool.{Bool, true, false, cond, false≢true}
 use mathlib.Core.List.{List, [], _∷_}
 use mathlib.Core.Option.{none, some, Option·some-injective, Option·some-ne-none}
-use mathlib.Core.Path.{_≡_, refl, sym, ap, _∙_}
+use mathlib.Core.Path.{_≡_, refl, sym, ap, subst, _∙_}
 use Prim.Native.Nat.{ℕ, zero, suc, _+_, _*_, _^_, _<_}
 use native.Mathlib.Omega.{arith}
 use lib.Dec.{eqb, ltb}
@@ -15,14 +15,15 @@ use Rattle.tables.proofs.Conds.{two}
 use Rattle.bits.specs.Numbers.{Order, most, number, wordIn, twelve, twelveIn}
 use Rattle.bits.specs.Twelve.{Bytes}
 use Rattle.bits.specs.Putting.{bytesOf}
-use Rattle.bits.specs.Signed.{signedOf, unsignedOf, signedIn}
+use Rattle.bits.specs.Signed.{signedOf, unsignedOf, InSixteen, signedIn}
 use Rattle.bits.specs.Pairs.{pairBytes}
+use Rattle.bits.proofs.Numbers.{below}
 use Rattle.bits.proofs.BytesOf.{length-bytes, are-bytes, bytes-back, bytes-forth}
 use Rattle.bits.proofs.WordBytes.{inside, small-word}
-use Rattle.bits.proofs.SignedPut.{unsigned-small, signed-back, signed-forth}
+use Rattle.bits.proofs.SignedPut.{unsigned-small, signed-back, signed-forth, signed-fits}
 use Rattle.bits.proofs.PairsPut as pairs
 use Rattle.formats.specs.Part.{PartLaw}
-use Rattle.formats.specs.Fields.{word, byte, signed, pairOf, same, fixed}
+use Rattle.formats.specs.Fields.{word, byte, signed16, pairOf, same, fixed}
 
 -- n bytes as a word
 pub exact : (b : List ℕ) (n : ℕ) → length b ≡ n → wordIn b 0 n ≡ number most b 0 (8 * n)
@@ -39,15 +40,17 @@ word-law n = record {
   sized = λ x h. length-bytes most n x;
   bytes = λ x h. are-bytes most n x;
   back = λ x h. ap some (word-back n x h);
-  forth = λ b x l h e k. ap (bytesOf most n) (sym (Option·some-injective (wordIn b 0 n) x e)) ∙ word-forth b n l h;
+  held = λ b x l h e. subst (λ (y : ℕ). y < 2 ^ (8 * n)) (Option·some-injective (wordIn b 0 n) x e) (small-word b 0 n);
+  forth = λ b x l h e. ap (bytesOf most n) (sym (Option·some-injective (wordIn b 0 n) x e)) ∙ word-forth b n l h;
 }
 
-pub signed-law : PartLaw signed
-signed-law = record {
+pub signed16-law : PartLaw signed16
+signed16-law = record {
   sized = λ z h. length-bytes most 2 (unsignedOf z);
   bytes = λ z h. are-bytes most 2 (unsignedOf z);
   back = λ z h. ap some (ap signedOf (word-back 2 (unsignedOf z) (unsigned-small z h)) ∙ signed-back z h);
-  forth = λ b z l h e k.
+  held = λ b z l h e. subst InSixteen (Option·some-injective (signedIn b 0) z e) (signed-fits (wordIn b 0 2) (small-word b 0 2));
+  forth = λ b z l h e.
       ap (λ (y : ℤ). bytesOf most 2 (unsignedOf y)) (sym (Option·some-injective (signedIn b 0) z e))
       ∙ ap (bytesOf most 2) (signed-forth (wordIn b 0 2) (small-word b 0 2))
       ∙ word-forth b 2 l h;
@@ -63,7 +66,13 @@ byte-forth (y ∷ []) x l e = ap (λ (z : ℕ). z ∷ []) (sym (Option·some-inj
 byte-forth (y ∷ (z ∷ b)) x l e = absurd (omega arith)
 
 pub byte-law : PartLaw byte
-byte-law = record { sized = λ x h. refl; bytes = one-byte; back = λ x h. refl; forth = λ b x l h e k. byte-forth b x l e }
+byte-law = record {
+  sized = λ x h. refl;
+  bytes = one-byte;
+  back = λ x h. refl;
+  held = λ b x l h e. subst (λ (y : ℕ). y < 256) (Option·some-injective (getD b 0 0) x e) (h 0);
+  forth = λ b x l h e. byte-forth b x l e;
+}
 
 -- three bytes as two numbers
 pub exact-pair : (o : Order) (b : List ℕ) (k : ℕ) → k < 2 → length b ≡ 3 → twelveIn o b k ≡ twelve o b k
@@ -83,12 +92,18 @@ pair-forth o b v l h e =
     let y : twelve o b 1 ≡ v .1 = sym (exact-pair o b 1 (omega arith) l) ∙ ap (λ (u : ℕ × ℕ). u .1) d in
     pairs.pair-forth o (v .0) (v .1) b l h x y
 
+pair-held : (o : Order) (b : List ℕ) (v : ℕ × ℕ) → length b ≡ 3 → pairOf o .read b ≡ some v → pairOf o .Holds v
+pair-held o b v l e =
+    let small : (k : ℕ) → k < 2 → twelveIn o b k < 4096 = λ k h. rw (exact-pair o b k h l) (below o b (12 * k) 12) in
+    subst (pairOf o .Holds) (Option·some-injective (twelveIn o b 0, twelveIn o b 1) v e) (small 0 (omega arith), small 1 (omega arith))
+
 pub pair-law : (o : Order) → PartLaw (pairOf o)
 pair-law o = record {
   sized = λ v h. pairs.length-pair o (v .0) (v .1);
   bytes = λ v h. pairs.pair-bytes o (v .0) (v .1);
   back = pair-back o;
-  forth = λ b v l h e k. pair-forth o b v l h e;
+  held = λ b v l h e. pair-held o b v l e;
+  forth = pair-forth o;
 }
 
 same-self : (m : List ℕ) → same m m ≡ true
@@ -118,5 +133,6 @@ fixed-law m t = record {
   sized = λ v h. refl;
   bytes = λ v h. mark-bytes m t;
   back = λ v h. rw (same-self m);
-  forth = λ b v l h e k. fixed-forth (same b m) b m v refl e;
+  held = λ b v l h e. tt;
+  forth = λ b v l h e. fixed-forth (same b m) b m v refl e;
 }

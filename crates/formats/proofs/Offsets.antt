@@ -1,49 +1,26 @@
 -- Where the parts of a whole stand, and a room that is filled part after part.
 -- Assumes nothing.
+use mathlib.Core.Bool.{true}
 use mathlib.Core.List.{List, [], _∷_, _++_, append-assoc, append-nil}
-use mathlib.Core.Option.{Option, some}
-use mathlib.Core.Path.{_≡_, refl, sym, ap, _∙_}
+use mathlib.Core.Option.{Option, none, some}
+use mathlib.Core.Path.{_≡_, refl, sym, ap, subst, _∙_}
 use Prim.Native.Nat.{ℕ, zero, suc, _+_, _-_, _*_, _<_, _≤_}
 use native.Mathlib.Nat.{add-assoc, add-comm, add-zero, zero-mul, suc-mul}
 use native.Mathlib.Numerals.{add-one}
 use native.Mathlib.Omega.{arith}
-use lib.ListN.{length, getD, take, drop, length-append, length-drop, take-append-drop}
+use lib.Dec.{eqb}
+use lib.ListN.{length, getD, take, drop, length-drop}
 use lib.Seq.{take-at, drop-at, drop-drop, take-add, take-take, length-take-le}
+use borrow.Author.Tests.{eq-eqb}
 use Rattle.tables.specs.Build.{build}
 use Rattle.tables.specs.Every.{Every}
 use Rattle.tables.proofs.Built.{length-build}
 use Rattle.tables.proofs.Every.{every-joined}
 use Rattle.buffers.specs.Laying.{patch}
-use Rattle.buffers.proofs.Patches.{length-patch}
+use Rattle.buffers.proofs.Patches.{length-patch, patch-none, patch-then}
 use Rattle.formats.specs.Part.{Part, PartLaw, readAt}
-use Rattle.formats.specs.Wholes.{both, pair, _then_, writeAll, readAll, ThenAt, TimesAt}
-use Rattle.formats.proofs.Laws.{all-sized}
-
--- one list laid over another, and then a second after it
-pub patch-then : (d : List ℕ) (at : ℕ) (s t : List ℕ) → at + length s ≤ length d → patch (patch d at s) (at + length s) t ≡ patch d at (s ++ t)
-unfolding patch
-patch-then d at s t h =
-    let m = at + length s in
-    let a = take at d ++ s in
-    let r = drop m d in
-    let e : take at d ++ (s ++ r) ≡ a ++ r = sym (append-assoc (take at d) s r) in
-    let l : length a ≡ m = length-append (take at d) s ∙ ap (λ (n : ℕ). n + length s) (length-take-le at d (omega arith)) in
-    let f : take m (take at d ++ (s ++ r)) ≡ a = ap (take m) e ∙ take-at a r m l in
-    let g : drop (m + length t) (take at d ++ (s ++ r)) ≡ drop (m + length t) d =
-    sym (drop-drop (length t) m (take at d ++ (s ++ r)))
-    ∙ ap (λ (x : List ℕ). drop (length t) (drop m x)) e
-    ∙ ap (drop (length t)) (drop-at a r m l)
-    ∙ drop-drop (length t) m d in
-    let k : m + length t ≡ at + length (s ++ t) = add-assoc at (length s) (length t) ∙ ap (λ (n : ℕ). at + n) (sym (length-append s t)) in
-    ap (λ (x : List ℕ). x ++ (t ++ drop (m + length t) (take at d ++ (s ++ r)))) f
-    ∙ ap (λ (x : List ℕ). a ++ (t ++ x)) g
-    ∙ append-assoc (take at d) s (t ++ drop (m + length t) d)
-    ∙ ap (λ (x : List ℕ). take at d ++ x) (sym (append-assoc s t (drop (m + length t) d)))
-    ∙ ap (λ (n : ℕ). take at d ++ ((s ++ t) ++ drop n d)) k
-
-pub patch-none : (d : List ℕ) (at : ℕ) → patch d at [] ≡ d
-unfolding patch
-patch-none d at = rw (add-zero at) (take-append-drop at d)
+use Rattle.formats.specs.Wholes.{together, pair, _then_, writeAll, readAll, _times_, byTwos, oneByOne, ThenAt, TimesAt, TwosAt}
+use Rattle.formats.proofs.Laws.{all-sized, twos-same}
 
 -- a room keeps its length
 pub length-written : {A : Type 0} {p : Part A} → PartLaw p → (room : List ℕ) (at : ℕ) (v : A) → p .Holds v → at + p .size ≤ length room
@@ -56,7 +33,7 @@ cut x m n h = ap (drop m) (take-add m n x) ∙ drop-at (take m x) (take n (drop 
 
 -- a whole read by its parts
 module _ {A B : Type 0} (p : Part A) (q : Part B) (b : List ℕ) (at : ℕ) (h : at + (p then q) .size ≤ length b) where
-  then-told : readAt (p then q) b at ≡ both pair (readAt p b at) (readAt q b (at + p .size))
+  then-told : readAt (p then q) b at ≡ together pair (readAt p b at) (readAt q b (at + p .size))
   then-told =
       let x = drop at b in
       let l : length x ≡ length b - at = length-drop at b in
@@ -65,8 +42,8 @@ module _ {A B : Type 0} (p : Part A) (q : Part B) (b : List ℕ) (at : ℕ) (h :
   pub then-read : (x : A) (y : B) → readAt p b at ≡ some x → readAt q b (at + p .size) ≡ some y → readAt (p then q) b at ≡ some (x, y)
   then-read x y d e =
       then-told
-      ∙ ap (λ (r : Option A). both pair r (readAt q b (at + p .size))) d
-      ∙ ap (λ (r : Option B). both {B = B} {C = A × B} pair (some x) r) e
+      ∙ ap (λ (r : Option A). together pair r (readAt q b (at + p .size))) d
+      ∙ ap (λ (r : Option B). together {B = B} {C = A × B} pair (some x) r) e
 
 pub then-at : {A B : Type 0} {p : Part A} (q : Part B) → PartLaw p → ThenAt p q
 then-at {A = A} {B = B} {p = p} q P = record {
@@ -80,7 +57,8 @@ then-at {A = A} {B = B} {p = p} q P = record {
 }
 
 module _ {A : Type 0} {p : Part A} (P : PartLaw p) where
-  element : (xs : List A) → Every (p .Holds) xs → (k : ℕ) (z : A) → k < length xs → take (p .size) (drop (k * p .size) (writeAll p xs)) ≡ p .write (getD xs k z)
+  element : (xs : List A) → Every (p .Holds) xs → (k : ℕ) (z : A) → k < length xs
+      → take (p .size) (drop (k * p .size) (writeAll p xs)) ≡ p .write (getD xs k z)
   unfolding writeAll Every
   element [] h k z l = absurd (omega arith)
   element (x ∷ xs) h zero z l = rw (zero-mul (p .size)) (take-at (p .write x) (writeAll p xs) (p .size) (P .sized x (h .0)))
@@ -116,28 +94,90 @@ module _ {A : Type 0} {p : Part A} (P : PartLaw p) where
   build-first f zero = refl
   build-first f (suc n) = ap (λ (x : List A). x ++ (f (suc n) ∷ [])) (build-first f n)
 
+  -- one element, and n after it
+  first-told : (n : ℕ) (b : List ℕ) (at : ℕ) → at + suc n * p .size ≤ length b
+      → readAll p (suc n) (take (suc n * p .size) (drop at b))
+      ≡ together _∷_ (readAt p b at) (readAll p n (take (n * p .size) (drop (at + p .size) b)))
+  unfolding readAll
+  first-told n b at l =
+      let s = p .size in
+      let x = drop at b in
+      let e : suc n * s ≡ s + n * s = suc-mul n s ∙ add-comm (n * s) s in
+      let i : length x ≡ length b - at = length-drop at b in
+      rw (e, take-take s (s + n * s) x (omega arith), cut x s (n * s) (omega arith), drop-drop s at b)
+
+  next : (at k : ℕ) → at + p .size + k * p .size ≡ at + suc k * p .size
+  next at k = let s = p .size in add-assoc at s (k * s) ∙ ap (λ (m : ℕ). at + m) (add-comm s (k * s) ∙ sym (suc-mul k s))
+
   told : (n : ℕ) (b : List ℕ) (at : ℕ) (f : ℕ → A) → at + n * p .size ≤ length b → ((k : ℕ) → k < n → readAt p b (at + k * p .size) ≡ some (f k))
       → readAll p n (take (n * p .size) (drop at b)) ≡ some (build f n)
   unfolding readAll build
   told zero b at f l h = refl
   told (suc n) b at f l h =
       let s = p .size in
-      let x = drop at b in
-      let e : suc n * s ≡ s + n * s = suc-mul n s ∙ add-comm (n * s) s in
-      let i : length x ≡ length b - at = length-drop at b in
-      let one : p .read (take s x) ≡ some (f 0) = rw (zero-mul s, add-zero at) at (h 0 (omega arith)) in
+      let e : suc n * s ≡ n * s + s = suc-mul n s in
+      let one : readAt p b at ≡ some (f 0) = rw (zero-mul s, add-zero at) at (h 0 (omega arith)) in
       let step : (k : ℕ) → k < n → readAt p b (at + s + k * s) ≡ some (f (suc k)) =
-      λ k j.
-      let q : at + s + k * s ≡ at + suc k * s = add-assoc at s (k * s) ∙ ap (λ (m : ℕ). at + m) (add-comm s (k * s) ∙ sym (suc-mul k s)) in
-      ap (λ (m : ℕ). readAt p b m) q ∙ h (suc k) (omega arith) in
+      λ k j. ap (λ (m : ℕ). readAt p b m) (next at k) ∙ h (suc k) (omega arith) in
       let rest = told n b (at + s) (λ k. f (suc k)) (omega arith) step in
-      rw (e, take-take s (s + n * s) x (omega arith), cut x s (n * s) (omega arith), drop-drop s at b, one, rest) (ap some (build-first f n))
+      first-told n b at l ∙ rw (one, rest) (ap some (build-first f n))
+
+  none-last : (x : Option A) → together {B = List A} _∷_ x none ≡ none
+  none-last none = refl
+  none-last (some a) = refl
+
+  refused : (n : ℕ) (b : List ℕ) (at k : ℕ) → at + n * p .size ≤ length b → k < n → readAt p b (at + k * p .size) ≡ none
+      → readAll p n (take (n * p .size) (drop at b)) ≡ none
+  refused zero b at k l h e = absurd (omega arith)
+  refused (suc n) b at zero l h e =
+      let one : readAt p b at ≡ none = rw (zero-mul (p .size), add-zero at) at e in
+      first-told n b at l ∙ rw one
+  refused (suc n) b at (suc k) l h e =
+      let s = p .size in
+      let i : suc n * s ≡ n * s + s = suc-mul n s in
+      let rest = refused n b (at + s) k (omega arith) (omega arith) (ap (λ (m : ℕ). readAt p b m) (next at k) ∙ e) in
+      first-told n b at l ∙ rw rest (none-last (readAt p b at))
 
   pub times-at : TimesAt p
   unfolding writeAll
   times-at = record {
     element = λ n xs h k z l. element xs (h .1) k z (omega (arith, h .0));
-    none = patch-none;
+    empty = patch-none;
     more = more;
     told = λ b at n f h k. told n b at f h k;
+    refused = λ b at n k h l e. refused n b at k h l e;
   }
+
+-- singles, and the pairs that they are
+module _ {A : Type 0} (f : ℕ → A) where
+  abbrev pairAt : ℕ → A × A
+  pairAt j = (f (2 * j), f (2 * j + 1))
+
+  ones-append : (us vs : List (A × A)) → oneByOne (us ++ vs) ≡ oneByOne us ++ oneByOne vs
+  unfolding oneByOne
+  ones-append [] vs = refl
+  ones-append (u ∷ us) vs = ap (λ (xs : List A). u .0 ∷ (u .1 ∷ xs)) (ones-append us vs)
+
+  ones-build : (n : ℕ) → oneByOne (build pairAt n) ≡ build f (2 * n)
+  unfolding build oneByOne
+  ones-build zero = refl
+  ones-build (suc n) =
+      let e : 2 * suc n ≡ suc (suc (2 * n)) = omega arith in
+      rw e
+      (ones-append (build pairAt n) (pairAt n ∷ [])
+      ∙ ap (λ (xs : List A). xs ++ (f (2 * n) ∷ (f (2 * n + 1) ∷ []))) (ones-build n)
+      ∙ rw (add-one (2 * n)) (sym (append-assoc (build f (2 * n)) (f (2 * n) ∷ []) (f (suc (2 * n)) ∷ []))))
+
+  twos-build : (n : ℕ) → build pairAt n ≡ byTwos (build f (2 * n))
+  twos-build n = sym (twos-same (build pairAt n)) ∙ ap byTwos (ones-build n)
+
+  all-there : (n : ℕ) → eqb (length (build f (2 * n))) (2 * n) ≡ true
+  all-there n = eq-eqb (length (build f (2 * n))) (2 * n) (length-build f (2 * n))
+
+pub twos-at : {A : Type 0} {p : Part (A × A)} → PartLaw p → TwosAt p
+twos-at {A = A} {p = p} P = record {
+  held = λ n f h.
+      (all-there f n, subst (λ (vs : List (A × A)). (n times p) .Holds vs) (twos-build f n) (length-build (pairAt f) n, every-build P (pairAt f) n h));
+  written = λ n f. ap (writeAll p) (sym (twos-build f n));
+  told = λ b at n f l h. rw (times-at P .told b at n (pairAt f) l h, ones-build f n, all-there f n);
+}

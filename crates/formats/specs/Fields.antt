@@ -22,8 +22,8 @@ abbrev pub byte : Part ℕ
 byte = record { size = 1; Holds = λ x. x < 256; write = λ x. x ∷ []; read = λ b. some (getD b 0 0) }
 
 -- a signed 16-bit number, two's complement, most significant byte first
-abbrev pub signed : Part ℤ
-signed = record { size = 2; Holds = InSixteen; write = λ z. bytesOf most 2 (unsignedOf z); read = λ b. some (signedIn b 0) }
+abbrev pub signed16 : Part ℤ
+signed16 = record { size = 2; Holds = InSixteen; write = λ z. bytesOf most 2 (unsignedOf z); read = λ b. some (signedIn b 0) }
 
 -- two 12-bit numbers in three bytes
 abbrev pub pairOf : Order → Part (ℕ × ℕ)

@@ -18,21 +18,20 @@ pub record Part (A : Type 0) : Type 1 where
 abbrev pub readAt : {A : Type 0} → Part A → List ℕ → ℕ → Option A
 readAt p b at = p .read (take (p .size) (drop at b))
 
--- what is written of a value it can hold has the part's size and consists of bytes, and reads back as that value; bytes of that
--- size that read as a value it can hold are what is written of it
+-- what is written of a value it can hold has the part's size and consists of bytes, and reads back as that value; what bytes of
+-- that size read as, if anything, is a value it can hold, and they are what is written of it
 pub record PartLaw {A : Type 0} (p : Part A) : Type 0 where
   pub sized : (v : A) → p .Holds v → length (p .write v) ≡ p .size
   pub bytes : (v : A) → p .Holds v → Bytes (p .write v)
   pub back : (v : A) → p .Holds v → p .read (p .write v) ≡ some v
-  pub forth : (b : List ℕ) (v : A) → length b ≡ p .size → Bytes b → p .read b ≡ some v → p .Holds v → p .write v ≡ b
+  pub held : (b : List ℕ) (v : A) → length b ≡ p .size → Bytes b → p .read b ≡ some v → p .Holds v
+  pub forth : (b : List ℕ) (v : A) → length b ≡ p .size → Bytes b → p .read b ≡ some v → p .write v ≡ b
 
 -- a value is determined by its bytes, and bytes by their value; proved as `determined` in proofs/Laws.antt
 pub record Determined {A : Type 0} (p : Part A) : Type 0 where
   pub value : (v w : A) → p .Holds v → p .Holds w → p .write v ≡ p .write w → v ≡ w
   pub bytes :
-      (v : A)
-      → p .Holds v
-      → (b c : List ℕ)
+      (v : A) (b c : List ℕ)
       → length b ≡ p .size
       → length c ≡ p .size
       → Bytes b

@@ -1,10 +1,12 @@
--- Wholes are parts again: one part and then another, a part so many times, and a part whose value is seen as another. Sizes and
--- offsets follow from the parts in order: `ThenAt` and `TimesAt`.
+-- Wholes are parts again: one part and then another, a part so many times, and a part whose value is seen as another or must pass
+-- a test. Sizes and offsets follow from the parts in order: `ThenAt`, `TimesAt` and `TwosAt`.
 -- Assumes nothing.
+use mathlib.Core.Bool.{Bool, true, cond}
 use mathlib.Core.List.{List, [], _∷_, _++_}
 use mathlib.Core.Option.{Option, none, some}
 use mathlib.Core.Path.{_≡_}
 use Prim.Native.Nat.{ℕ, zero, suc, _+_, _*_, _<_, _≤_}
+use lib.Dec.{eqb}
 use lib.ListN.{length, getD, take, drop}
 use Rattle.tables.specs.Build.{build}
 use Rattle.tables.specs.Every.{Every}
@@ -13,11 +15,12 @@ use Rattle.formats.specs.Part.{Part, readAt}
 
 infixr 4 _then_
 infixr 5 _times_
+infixr 5 _twos_
 -- of two values that may be missing
-abbrev pub both : {A B C : Type 0} → (A → B → C) → Option A → Option B → Option C
-both f (some a) (some b) = some (f a b)
-both f (some a) none = none
-both f none b = none
+abbrev pub together : {A B C : Type 0} → (A → B → C) → Option A → Option B → Option C
+together f (some a) (some b) = some (f a b)
+together f (some a) none = none
+together f none b = none
 
 abbrev pub pair : {A B : Type 0} → A → B → A × B
 pair a b = (a, b)
@@ -28,7 +31,7 @@ p then q = record {
   size = p .size + q .size;
   Holds = λ v. p .Holds (v .0) × q .Holds (v .1);
   write = λ v. p .write (v .0) ++ q .write (v .1);
-  read = λ b. both pair (p .read (take (p .size) b)) (q .read (drop (p .size) b));
+  read = λ b. together pair (p .read (take (p .size) b)) (q .read (drop (p .size) b));
 }
 
 unfoldable pub writeAll : {A : Type 0} → Part A → List A → List ℕ
@@ -37,7 +40,7 @@ writeAll p (x ∷ xs) = p .write x ++ writeAll p xs
 
 unfoldable pub readAll : {A : Type 0} → Part A → ℕ → List ℕ → Option (List A)
 readAll p zero b = some []
-readAll p (suc n) b = both _∷_ (p .read (take (p .size) b)) (readAll p n (drop (p .size) b))
+readAll p (suc n) b = together _∷_ (p .read (take (p .size) b)) (readAll p n (drop (p .size) b))
 
 -- the part n times, one after another
 abbrev pub _times_ : {A : Type 0} → ℕ → Part A → Part (List A)
@@ -48,13 +51,37 @@ n times p = record {
   read = readAll p n;
 }
 
-abbrev pub mapped : {A B : Type 0} → (A → B) → Option A → Option B
-mapped f none = none
-mapped f (some a) = some (f a)
+-- a value that may be missing seen as another, and missing where that fails the test
+abbrev pub shown : {A B : Type 0} → (A → B) → (B → Bool) → Option A → Option B
+shown to good none = none
+shown to good (some a) = cond (good (to a)) (some (to a)) none
 
--- the part with its value seen as another, such as a record of named fields
-abbrev pub seen : {A B : Type 0} → (A → B) → (B → A) → Part A → Part B
-seen to from p = record { size = p .size; Holds = λ v. p .Holds (from v); write = λ v. p .write (from v); read = λ b. mapped to (p .read b) }
+-- the part with its value seen as another, such as a record of named fields; it holds, and reads, only what passes the test
+abbrev pub seen : {A B : Type 0} → (A → B) → (B → A) → (B → Bool) → Part A → Part B
+seen to from good p = record {
+  size = p .size;
+  Holds = λ v. (good v ≡ true) × p .Holds (from v);
+  write = λ v. p .write (from v);
+  read = λ b. shown to good (p .read b);
+}
+
+-- the part with its own values, of which it holds only those that pass the test
+abbrev pub limited : {A : Type 0} → (A → Bool) → Part A → Part A
+limited = seen (λ v. v) (λ v. v)
+
+-- a list two by two, where an odd one is left out; and pairs one by one
+unfoldable pub byTwos : {A : Type 0} → List A → List (A × A)
+byTwos [] = []
+byTwos (x ∷ []) = []
+byTwos (x ∷ (y ∷ xs)) = (x, y) ∷ byTwos xs
+
+unfoldable pub oneByOne : {A : Type 0} → List (A × A) → List A
+oneByOne [] = []
+oneByOne (v ∷ vs) = v .0 ∷ (v .1 ∷ oneByOne vs)
+
+-- n pairs, seen as a list of 2n
+abbrev pub _twos_ : {A : Type 0} → ℕ → Part (A × A) → Part (List A)
+n twos p = seen oneByOne byTwos (λ xs. eqb (length xs) (2 * n)) (n times p)
 
 -- the second part stands at the first one's size; written into a room one after another, the parts are the whole; and a whole is
 -- read by its parts. Proved as `then-at` in proofs/Offsets.antt
@@ -69,10 +96,10 @@ pub record ThenAt {A B : Type 0} (p : Part A) (q : Part B) : Type 0 where
   pub told :
       (b : List ℕ) (at : ℕ)
       → at + (p then q) .size ≤ length b
-      → readAt (p then q) b at ≡ both pair (readAt p b at) (readAt q b (at + p .size))
+      → readAt (p then q) b at ≡ together pair (readAt p b at) (readAt q b (at + p .size))
 
--- element k stands at k times the size; a room filled with the first k elements and then with one more is filled with k + 1; and a
--- whole of n is read element by element. Proved as `times-at` in proofs/Offsets.antt
+-- element k stands at k times the size; a room filled with the first k elements and then with one more is filled with k + 1; a whole
+-- of n is read element by element, and isn't where one of them isn't. Proved as `times-at` in proofs/Offsets.antt
 pub record TimesAt {A : Type 0} (p : Part A) : Type 0 where
   pub element :
       (n : ℕ) (xs : List A)
@@ -80,7 +107,7 @@ pub record TimesAt {A : Type 0} (p : Part A) : Type 0 where
       → (k : ℕ) (z : A)
       → k < n
       → take (p .size) (drop (k * p .size) ((n times p) .write xs)) ≡ p .write (getD xs k z)
-  pub none : (room : List ℕ) (at : ℕ) → patch room at ((0 times p) .write []) ≡ room
+  pub empty : (room : List ℕ) (at : ℕ) → patch room at ((0 times p) .write []) ≡ room
   pub more :
       (room : List ℕ) (at k : ℕ) (f : ℕ → A)
       → ((j : ℕ) → j < k → p .Holds (f j))
@@ -92,3 +119,22 @@ pub record TimesAt {A : Type 0} (p : Part A) : Type 0 where
       → at + (n times p) .size ≤ length b
       → ((k : ℕ) → k < n → readAt p b (at + k * p .size) ≡ some (f k))
       → readAt (n times p) b at ≡ some (build f n)
+  pub refused :
+      (b : List ℕ) (at n k : ℕ)
+      → at + (n times p) .size ≤ length b
+      → k < n
+      → readAt p b (at + k * p .size) ≡ none
+      → readAt (n times p) b at ≡ none
+
+-- singles 2j and 2j + 1 are pair j: they are held where each pair is, written as the pairs are, and read pair by pair. Proved as
+-- `twos-at` in proofs/Offsets.antt
+pub record TwosAt {A : Type 0} (p : Part (A × A)) : Type 0 where
+  pub held :
+      (n : ℕ) (f : ℕ → A) → ((j : ℕ) → j < n → p .Holds (f (2 * j), f (2 * j + 1))) → (n twos p) .Holds (build f (2 * n))
+  pub written :
+      (n : ℕ) (f : ℕ → A) → (n twos p) .write (build f (2 * n)) ≡ (n times p) .write (build (λ j. (f (2 * j), f (2 * j + 1))) n)
+  pub told :
+      (b : List ℕ) (at n : ℕ) (f : ℕ → A)
+      → at + (n twos p) .size ≤ length b
+      → ((k : ℕ) → k < n → readAt p b (at + k * p .size) ≡ some (f (2 * k), f (2 * k + 1)))
+      → readAt (n twos p) b at ≡ some (build f (2 * n))

@@ -7,6 +7,7 @@ use mir.Syntax.{w16}
 use mir.ValLaws.{toZ-ofZ}
 use Rattle.bits.specs.Putting.{wordPut}
 use Rattle.bits.specs.Signed.{unsignedOf}
+use Rattle.bits.proofs.SignedPut.{narrow}
 use borrow.Author.Needs.{needs}
 use Rattle.bits.proofs.signed.put_signed16.Statement.{statement}
 use Rattle.bits.proofs.signed.put_signed16.Tie as tie
@@ -27,6 +28,7 @@ returns c =
     let a = s .args in
     p .put16 .ensures
     ∙ ap (λ (w : ℕ). wordPut (now (a .room)) (a .at) 2 w) (p .before .to-word .ensures ∙ ap unsignedOf (toZ-ofZ w16 (a .z) (s .fits .z)))
+    ∙ narrow (now (a .room)) (a .at) (a .z) (s .fits .z .sfits)
 
 pub put-signed16-spec : {M : Type 1} → statement M
 put-signed16-spec = tie.close (tie.spec to-word-requires put16-requires same-length returns)
