@@ -89,8 +89,5 @@ pub fn is_listed(clock: Clock, a: Accumulation) -> bool
     if !none_open(a) {
         return false;
     }
-    if clock.any {
-        return true;
-    }
-    a.held == 0
+    clock::begun(clock, a.held)
 }

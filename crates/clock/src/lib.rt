@@ -1,7 +1,7 @@
 // The reader's clock: what "later" means, at which count a record stands, and the clock's part of the state list (01, "Numbers a
 // refused record gets").
 ghost use mathlib.Core.Path.{_≡_};
-ghost use Rattle.clock.specs.Clock.{arrivalAt, accepted, unset, clockListed};
+ghost use Rattle.clock.specs.Clock.{arrivalAt, accepted, unset, begun, clockListed};
 
 // Whether anything was accepted, and the last accepted count.
 pub struct Clock {
@@ -47,6 +47,16 @@ pub fn arrival_of(clock: Clock, count: u32) -> Arrival
     Arrival::At(d)
 }
 
+// Was something accepted, or is the number 0?
+pub fn begun(clock: Clock, n: u64) -> bool
+    ensures { λ b. ⌜ b ≡ begun clock n ⌝ }
+{
+    if clock.any {
+        return true;
+    }
+    n == 0
+}
+
 // Does the clock pass its part of the list?
 pub fn is_listed(clock: Clock) -> bool
     ensures { λ b. ⌜ b ≡ clockListed clock ⌝ }
@@ -54,8 +64,5 @@ pub fn is_listed(clock: Clock) -> bool
     if COUNTS <= clock.last {
         return false;
     }
-    if clock.any {
-        return true;
-    }
-    clock.last == 0
+    begun(clock, clock.last)
 }

@@ -69,8 +69,5 @@ pub fn is_listed(clock: Clock, m: Major) -> bool
     if !no_slot(m) {
         return false;
     }
-    if clock.any {
-        return true;
-    }
-    m.slots == 0
+    clock::begun(clock, m.slots as u64)
 }

@@ -1,6 +1,5 @@
 -- `accumulation::list::is_listed` meets its contract.
 -- Assumes nothing.
-use borrow.Author.Tests.{eq-eqb, ne-eqb}
 use Rattle.tables.proofs.Conds.{held, fails}
 use Rattle.accumulation.specs.List.{accumulationListed}
 use Rattle.accumulation.proofs.Facts.{first-below}
@@ -82,6 +81,9 @@ returns-5 c =
       fails (c .before .none-open .ensures) (c .if5 .taken),
     )
 
+begun-requires : tie.Need-begun-requires
+begun-requires c κs = search needs
+
 returns-6 : tie.Need-returns-6
 unfolding accumulationListed
 returns-6 c =
@@ -90,31 +92,13 @@ returns-6 c =
     let p3 = p4 .before .before in
     let p2 = p3 .before .before in
     let p1 = p2 .before .before in
-    rw (
-      held (p1 .before .counts-below .ensures) (p1 .if1 .left),
-      held (p2 .before .frames-among .ensures) (p2 .if2 .left),
-      held (p3 .before .frames-fit .ensures) (p3 .if3 .left),
-      held (p4 .before .others-fit .ensures) (p4 .if4 .left),
-      held (p5 .before .none-open .ensures) (p5 .if5 .left),
-      c .if6 .taken,
-    )
-
-returns-7 : tie.Need-returns-7
-unfolding accumulationListed
-returns-7 c =
-    let p5 = c .before .before in
-    let p4 = p5 .before .before in
-    let p3 = p4 .before .before in
-    let p2 = p3 .before .before in
-    let p1 = p2 .before .before in
-    rw (
-      held (p1 .before .counts-below .ensures) (p1 .if1 .left),
-      held (p2 .before .frames-among .ensures) (p2 .if2 .left),
-      held (p3 .before .frames-fit .ensures) (p3 .if3 .left),
-      held (p4 .before .others-fit .ensures) (p4 .if4 .left),
-      held (p5 .before .none-open .ensures) (p5 .if5 .left),
-      c .before .if6 .left,
-    )
+    rw
+    (held (p1 .before .counts-below .ensures) (p1 .if1 .left),
+     held (p2 .before .frames-among .ensures) (p2 .if2 .left),
+     held (p3 .before .frames-fit .ensures) (p3 .if3 .left),
+     held (p4 .before .others-fit .ensures) (p4 .if4 .left),
+     held (p5 .before .none-open .ensures) (p5 .if5 .left))
+    (c .begun .ensures)
 
 pub is-listed-spec : {M : Type 1} → statement M
 is-listed-spec =
@@ -130,5 +114,5 @@ is-listed-spec =
     returns-4
     none-open-requires
     returns-5
-    returns-6
-    returns-7)
+    begun-requires
+    returns-6)

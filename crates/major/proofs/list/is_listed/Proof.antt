@@ -40,31 +40,23 @@ returns-3 c =
       fails (c .before .no-slot .ensures) (c .if3 .taken),
     )
 
+cast-begun : tie.Need-cast-begun
+cast-begun c = search needs
+
+begun-requires : tie.Need-begun-requires
+begun-requires c κs = search needs
+
 returns-4 : tie.Need-returns-4
 unfolding majorListed
 returns-4 c =
-    let p3 = c .before in
-    let p2 = p3 .before .before in
-    let p1 = p2 .before .before in
-    rw (
-      held (p1 .before .slots-hold .ensures) (p1 .if1 .left),
-      held (p2 .before .major-now .ensures) (p2 .if2 .left),
-      held (p3 .before .no-slot .ensures) (p3 .if3 .left),
-      c .if4 .taken,
-    )
-
-returns-5 : tie.Need-returns-5
-unfolding majorListed
-returns-5 c =
     let p3 = c .before .before in
     let p2 = p3 .before .before in
     let p1 = p2 .before .before in
-    rw (
-      held (p1 .before .slots-hold .ensures) (p1 .if1 .left),
-      held (p2 .before .major-now .ensures) (p2 .if2 .left),
-      held (p3 .before .no-slot .ensures) (p3 .if3 .left),
-      c .before .if4 .left,
-    )
+    rw
+    (held (p1 .before .slots-hold .ensures) (p1 .if1 .left),
+     held (p2 .before .major-now .ensures) (p2 .if2 .left),
+     held (p3 .before .no-slot .ensures) (p3 .if3 .left))
+    (c .begun .ensures)
 
 pub is-listed-spec : {M : Type 1} → statement M
 is-listed-spec =
@@ -76,5 +68,6 @@ is-listed-spec =
     returns-2
     no-slot-requires
     returns-3
-    returns-4
-    returns-5)
+    cast-begun
+    begun-requires
+    returns-4)
