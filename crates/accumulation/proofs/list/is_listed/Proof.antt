@@ -92,12 +92,13 @@ returns-6 c =
     let p3 = p4 .before .before in
     let p2 = p3 .before .before in
     let p1 = p2 .before .before in
-    rw
-    (held (p1 .before .counts-below .ensures) (p1 .if1 .left),
-     held (p2 .before .frames-among .ensures) (p2 .if2 .left),
-     held (p3 .before .frames-fit .ensures) (p3 .if3 .left),
-     held (p4 .before .others-fit .ensures) (p4 .if4 .left),
-     held (p5 .before .none-open .ensures) (p5 .if5 .left))
+    rw (
+      held (p1 .before .counts-below .ensures) (p1 .if1 .left),
+      held (p2 .before .frames-among .ensures) (p2 .if2 .left),
+      held (p3 .before .frames-fit .ensures) (p3 .if3 .left),
+      held (p4 .before .others-fit .ensures) (p4 .if4 .left),
+      held (p5 .before .none-open .ensures) (p5 .if5 .left),
+    )
     (c .begun .ensures)
 
 pub is-listed-spec : {M : Type 1} → statement M

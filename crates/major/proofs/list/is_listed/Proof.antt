@@ -52,10 +52,11 @@ returns-4 c =
     let p3 = c .before .before in
     let p2 = p3 .before .before in
     let p1 = p2 .before .before in
-    rw
-    (held (p1 .before .slots-hold .ensures) (p1 .if1 .left),
-     held (p2 .before .major-now .ensures) (p2 .if2 .left),
-     held (p3 .before .no-slot .ensures) (p3 .if3 .left))
+    rw (
+      held (p1 .before .slots-hold .ensures) (p1 .if1 .left),
+      held (p2 .before .major-now .ensures) (p2 .if2 .left),
+      held (p3 .before .no-slot .ensures) (p3 .if3 .left),
+    )
     (c .begun .ensures)
 
 pub is-listed-spec : {M : Type 1} → statement M
