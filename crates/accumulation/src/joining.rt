@@ -1,7 +1,5 @@
 // Which frames join the open accumulation (01, "Joining accumulations").
 ghost use mathlib.Core.Path.{_≡_};
-ghost use Prim.Native.Nat.{_<_};
-ghost use Rattle.tables.specs.Marks.{bitSet};
 ghost use Rattle.accumulation.specs.Accumulation.{joins};
 ghost use Rattle.accumulation.specs.Place.{After, inPlace, guardPasses};
 use crate::Accumulation;
@@ -46,26 +44,22 @@ pub(crate) fn joins_at(a: Accumulation, u: u8, d: u64) -> bool
     g <= 34 + apart
 }
 
-// Is the type's mark set already?
-fn holds_type(held: u64, u: u8) -> bool
-    requires { ⌜ u < 64 ⌝ }
-    ensures { λ b. ⌜ b ≡ bitSet held u ⌝ }
-{
-    (held >> u) % 2 == 1
-}
-
-// Rule 13, the old guard: false where the frame joins and its type is held already.
+// Rule 13, the old guard: false where the frame joins and its type is held already. The mark is looked at first: in a stream it is
+// seldom set.
 pub fn guard_passes(a: Accumulation, science: bool, u: u8, d: u64) -> bool
     ensures { λ b. ⌜ b ≡ guardPasses a science u d ⌝ }
 {
+    if 63 < u {
+        return true;
+    }
+    if (a.held >> u) % 2 != 1 {
+        return true;
+    }
     if !in_place(a, u, d) {
         return true;
     }
     if !science {
         return true;
     }
-    if !joins_at(a, u, d) {
-        return true;
-    }
-    !holds_type(a.held, u)
+    !joins_at(a, u, d)
 }
