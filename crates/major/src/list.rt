@@ -16,7 +16,7 @@ fn slot_holds(slots: u16, mag_slots: u16, range: u8, word: u16, i: usize) -> boo
     if held < mag {
         return false;
     }
-    if 7 * mag < range as u16 {
+    if 7 * (mag as u8) < range {
         return false;
     }
     word <= 65535 * held

@@ -40,18 +40,15 @@ pub fn fresh() -> State
     }
 }
 
-// Does the state pass the list? Each part tests its own.
+// Does the state pass the list? Each part tests its own; the major frame first, so that its arrays aren't held over the other tests.
 pub fn listed(state: State) -> bool
     ensures { λ b. ⌜ b ≡ listed state ⌝ }
 {
-    let clock = state.clock;
-    let a = state.accumulation;
-    let m = state.major;
-    if !clock::is_listed(clock) {
+    if !major::is_listed(state.clock, state.major) {
         return false;
     }
-    if !accumulation::is_listed(clock, a) {
+    if !clock::is_listed(state.clock) {
         return false;
     }
-    major::is_listed(clock, m)
+    accumulation::is_listed(state.clock, state.accumulation)
 }

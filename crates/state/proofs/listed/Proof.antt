@@ -1,6 +1,9 @@
 -- `state::listed` meets its contract.
 -- Assumes nothing.
+use mathlib.Core.Bool.{and-false, and-true}
 use Rattle.tables.proofs.Conds.{held, fails}
+use Rattle.clock.specs.Clock.{clockListed}
+use Rattle.accumulation.specs.List.{accumulationListed}
 use Rattle.state.specs.List.{listed}
 use borrow.Author.Needs.{needs}
 use Rattle.state.proofs.listed.Statement.{statement}
@@ -14,16 +17,20 @@ is-listed-requires c κs = search needs
 
 returns : tie.Need-returns
 unfolding listed
-returns c = rw (fails (c .before .is-listed .ensures) (c .if1 .taken))
+returns c =
+    let s = c .before .before .args .state in
+    rw (
+      fails (c .before .is-listed .ensures) (c .if1 .taken),
+      and-false (accumulationListed (s .clock) (s .accumulation)),
+      and-false (clockListed (s .clock)),
+    )
 
 is-listed-requires-2 : tie.Need-is-listed-requires-2
 is-listed-requires-2 c κs = search needs
 
 returns-2 : tie.Need-returns-2
 unfolding listed
-returns-2 c =
-    let k = c .before .before in
-    rw (held (k .before .is-listed .ensures) (k .if1 .left), fails (c .before .is-listed2 .ensures) (c .if2 .taken))
+returns-2 c = rw (fails (c .before .is-listed2 .ensures) (c .if2 .taken))
 
 is-listed-requires-3 : tie.Need-is-listed-requires-3
 is-listed-requires-3 c κs = search needs
@@ -33,7 +40,13 @@ unfolding listed
 returns-3 c =
     let m = c .before in
     let k = m .before .before in
-    rw (held (k .before .is-listed .ensures) (k .if1 .left), held (m .before .is-listed2 .ensures) (m .if2 .left)) (c .is-listed3 .ensures)
+    let s = k .before .before .args .state in
+    rw (
+      held (k .before .is-listed .ensures) (k .if1 .left),
+      held (m .before .is-listed2 .ensures) (m .if2 .left),
+      and-true (accumulationListed (s .clock) (s .accumulation)),
+    )
+    (c .is-listed3 .ensures)
 
 pub listed-spec : {M : Type 1} → statement M
 listed-spec =

@@ -21,6 +21,9 @@ shr-mag c = search needs
 returns : tie.Need-returns
 returns c = let a = c .before .args in mag-beside (a .slots) (a .mag-slots) (a .range) (a .word) (a .i) (omega arith)
 
+cast-if2 : tie.Need-cast-if2
+cast-if2 c = omega arith
+
 mul-if2 : tie.Need-mul-if2
 mul-if2 c = omega arith
 
@@ -36,4 +39,4 @@ returns-3 c = let a = c .before .before .args in word-fits (a .slots) (a .mag-sl
 pub slot-holds-spec : {M : Type 1} → statement M
 slot-holds-spec =
     tie.close
-    (tie.spec cast-held shr-held cast-mag shr-mag returns mul-if2 returns-2 mul-result returns-3)
+    (tie.spec cast-held shr-held cast-mag shr-mag returns cast-if2 mul-if2 returns-2 mul-result returns-3)
