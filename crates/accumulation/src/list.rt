@@ -11,10 +11,7 @@ use clock::Clock;
 fn counts_below(a: Accumulation) -> bool
     ensures { λ b. ⌜ b ≡ countsBelow a ⌝ }
 {
-    if COUNTS <= a.first {
-        return false;
-    }
-    a.last_count < COUNTS
+    (a.first < COUNTS) & (a.last_count < COUNTS)
 }
 
 fn frames_among(a: Accumulation) -> bool
@@ -55,19 +52,8 @@ fn others_fit(clock: Clock, a: Accumulation) -> bool
 fn none_open(a: Accumulation) -> bool
     ensures { λ b. ⌜ b ≡ noneOpen a ⌝ }
 {
-    if a.held != 0 {
-        return true;
-    }
-    if a.first != 0 {
-        return false;
-    }
-    if a.last_type != 0 {
-        return false;
-    }
-    if a.last_count != 0 {
-        return false;
-    }
-    a.others == 0
+    (a.held != 0)
+        | ((a.first == 0) & ((a.last_type == 0) & ((a.last_count == 0) & (a.others == 0))))
 }
 
 // Does the accumulation pass its part of the list, with this clock?
@@ -77,17 +63,6 @@ pub fn is_listed(clock: Clock, a: Accumulation) -> bool
     if !counts_below(a) {
         return false;
     }
-    if !frames_among(a) {
-        return false;
-    }
-    if !frames_fit(a) {
-        return false;
-    }
-    if !others_fit(clock, a) {
-        return false;
-    }
-    if !none_open(a) {
-        return false;
-    }
-    clock::begun(clock, a.held)
+    frames_among(a)
+        & (frames_fit(a) & (others_fit(clock, a) & (none_open(a) & clock::begun(clock, a.held))))
 }

@@ -1,4 +1,3 @@
-pub mod Clauses
 pub mod Parts
 pub mod Facts
 pub mod Keeping

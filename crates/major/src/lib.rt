@@ -11,14 +11,14 @@ pub use steps::report;
 pub use steps::step;
 pub use steps::unreported;
 
-// Its number, the slots held and those held with MAG (bit s for slot s), their ranges and subcom words. It is open when it holds a
-// slot.
+// Its number, subcom words and ranges by slot, the slots held and those held with MAG (bit s for slot s). It is open when it holds a
+// slot. In this order the words and ranges begin at multiples of 16 bytes of the state, and are copied and tested in whole ones.
 pub struct Major {
     pub number: u64,
+    pub words: [u16; 16],
+    pub ranges: [u8; 16],
     pub slots: u16,
     pub mag_slots: u16,
-    pub ranges: [u8; 16],
-    pub words: [u16; 16],
 }
 
 // Whether a major frame was closed, and which; all 0 where none was.

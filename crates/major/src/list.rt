@@ -5,34 +5,27 @@ ghost use Rattle.major.specs.List.{slotTest, slotsHold, majorNow, noSlot
 use crate::Major;
 use clock::Clock;
 
-// Slot i, below 16: its two marks, its range, its word. It is handed these and not the frame, which would be copied; and in a state
-// that passes no branch of it goes the other way, whatever is held.
+// Slot i, below 16: its two marks, its range, its word; it is handed these and not the frame, which would be copied. Neither this
+// nor the loop over the slots has a branch that depends on what is held, so that the compiler tests eight slots at once.
 fn slot_holds(slots: u16, mag_slots: u16, range: u8, word: u16, i: usize) -> bool
     requires { ⌜ i < 16 ⌝ }
     ensures { λ b. ⌜ b ≡ slotTest slots «mag_slots» range word i ⌝ }
 {
-    let held = (slots >> i) % 2;
-    let mag = (mag_slots >> i) % 2;
-    if held < mag {
-        return false;
-    }
-    if 7 * (mag as u8) < range {
-        return false;
-    }
-    word <= 65535 * held
+    let held = (slots >> i) % 2 == 1;
+    let mag = (mag_slots >> i) % 2 == 1;
+    (!mag | held) & ((range <= 7) & ((mag | (range == 0)) & (held | (word == 0))))
 }
 
 fn slots_hold(m: Major) -> bool
     ensures { λ b. ⌜ b ≡ slotsHold m ⌝ }
 {
+    let mut all = true;
     let mut i = 0;
     while i < 16 {
-        if !slot_holds(m.slots, m.mag_slots, m.ranges[i], m.words[i], i) {
-            return false;
-        }
+        all = slot_holds(m.slots, m.mag_slots, m.ranges[i], m.words[i], i) & all;
         i += 1;
     }
-    true
+    all
 }
 
 fn major_now(clock: Clock, m: Major) -> bool

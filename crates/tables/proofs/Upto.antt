@@ -1,6 +1,6 @@
 -- A rule at every number below n, proved by one test that is computed.
 -- Assumes nothing.
-use mathlib.Core.Path.{_≡_, refl, sym, subst, _∙_}
+use mathlib.Core.Path.{_≡_, refl, sym, subst}
 use mathlib.Core.Bool.{Bool, true, false}
 use Prim.Native.Nat.{ℕ, zero, suc, _<_}
 use native.Mathlib.Omega.{arith}
@@ -39,11 +39,3 @@ is-true false t = absurd t
 
 pub upto-true : (f : ℕ → Bool) (n : ℕ) → upto f n ≡ true → (k : ℕ) → k < n → f k ≡ true
 upto-true f n e k h = is-true (f k) (upto-at f n (subst T (sym e) tt) k h)
-
--- a test that fails at one
-pub upto-false : (f : ℕ → Bool) (n k : ℕ) → k < n → f k ≡ false → upto f n ≡ false
-upto-false f n k h e = go (upto f n) refl
-  where
-    go : (t : Bool) → upto f n ≡ t → t ≡ false
-    go true t = sym (upto-true f n t k h) ∙ e
-    go false t = refl

@@ -64,7 +64,7 @@ returns c =
     let k₂ = k₃ .before in
     let k₁ = k₂ .before in
     let k₀ = k₁ .before .before in
-    let h : length (k₀ .args .m .ranges) ≡ 16 = search (needs, k₀ .good .0 .1 .1 .1 .1 .1 .0) in
+    let h : length (k₀ .args .m .ranges) ≡ 16 = search (needs, k₀ .good .0 .1 .1 .1 .1 .0) in
     major-put (k₀ .args .m) (k₀ .args .room .now) (k₁ .bytes8 .result) (k₂ .bytes2 .result) (k₃ .bytes22 .result)
     (k₄ .words-bytes .result) (k₅ .lay .last .1 .0) (k₆ .lay2 .last .1 .0) (k₇ .lay3 .last .1 .0)
     (k₈ .lay4 .last .1 .0) (k₉ .lay5 .last .1 .0) (k₀ .pre) h (k₁ .bytes8 .ensures) (k₂ .bytes2 .ensures)

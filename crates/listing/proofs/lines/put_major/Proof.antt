@@ -29,19 +29,19 @@ mul-put-line c = search needs
 cast-put-line : tie.Need-cast-put-line
 cast-put-line c =
     let k = c .before .before .before .before .before .before .before .before .before in
-    record { fits = omega (arith, ones-le 16 (k .args .report .frame .slots) (c .struct-known4 .given .1 .0 .fits)) }
+    record { fits = omega (arith, ones-le 16 (k .args .report .frame .slots) (c .struct-known4 .given .1 .1 .1 .0 .fits)) }
 
 cast-put-line-2 : tie.Need-cast-put-line-2
 cast-put-line-2 c =
     let k₁ = c .before .before .before .before .before in
     let k₀ = k₁ .before .before .before .before .before in
-    record { fits = omega (arith, ones-le 16 (k₀ .args .report .frame .«mag_slots») (c .struct-known5 .given .1 .1 .0 .fits)) }
+    record { fits = omega (arith, ones-le 16 (k₀ .args .report .frame .«mag_slots») (c .struct-known5 .given .1 .1 .1 .1 .0 .fits)) }
 
 mul-put-line-2 : tie.Need-mul-put-line-2
 mul-put-line-2 c =
     let k₁ = c .before .before .before .before .before in
     let k₀ = k₁ .before .before .before .before .before in
-    record { fits = omega (arith, ones-le 16 (k₀ .args .report .frame .«mag_slots») (c .struct-known5 .given .1 .1 .0 .fits)) }
+    record { fits = omega (arith, ones-le 16 (k₀ .args .report .frame .«mag_slots») (c .struct-known5 .given .1 .1 .1 .1 .0 .fits)) }
 
 put-line-requires : tie.Need-put-line-requires
 put-line-requires c κs = search needs

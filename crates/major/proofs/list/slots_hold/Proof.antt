@@ -1,23 +1,26 @@
 -- `major::list::slots_hold` meets its contract. The loop has tested the first i slots.
 -- Assumes nothing.
-use mathlib.Core.Path.{_≡_, refl, sym}
-use mathlib.Core.Bool.{true}
-use Prim.Native.Nat.{_≤_, _-_}
-use Rattle.tables.specs.Upto.{upto}
-use Rattle.tables.proofs.Upto.{upto-false}
+use mathlib.Core.Path.{_≡_, refl, sym, ap, _∙_}
+use mathlib.Core.Bool.{Bool, true, false, _&&_}
+use Prim.Native.Nat.{ℕ, _≤_, _+_, _-_}
+use native.Mathlib.Numerals.{add-one}
+use Rattle.tables.specs.Upto.{both, upto}
 use Rattle.major.specs.List.{slotHolds, slotsHold}
-use Rattle.tables.proofs.Conds.{held, fails}
-use Rattle.major.proofs.Clauses.{one-more, sixteen}
 use native.Mathlib.Omega.{arith}
 use borrow.Author.Needs.{needs}
 use Rattle.major.proofs.list.slots_hold.Statement.{statement}
 use Rattle.major.proofs.list.slots_hold.Tie as tie
 
+one-more : (f : ℕ → Bool) (i : ℕ) (b all : Bool) → b ≡ f i → all ≡ upto f i → (b && all) ≡ upto f (i + 1)
+unfolding both
+one-more f i true all e h = rw (add-one i, sym e) h
+one-more f i false all e h = rw (add-one i, sym e)
+
 abbrev Inv-loop : tie.InvT-loop
-Inv-loop m i₀ i = (i ≤ 16) × (upto (slotHolds m) i ≡ true)
+Inv-loop m all₀ i₀ all i = (i ≤ 16) × (all ≡ upto (slotHolds m) i)
 
 abbrev μ-loop : tie.MeasureT-loop
-μ-loop m i₀ i = 16 - i
+μ-loop m all₀ i₀ all i = 16 - i
 
 loop-holds : tie.Need-loop-holds Inv-loop μ-loop
 loop-holds c = (omega arith, refl)
@@ -34,12 +37,6 @@ element-copy-out-slot-holds-2 c = search needs
 slot-holds-requires : tie.Need-slot-holds-requires Inv-loop μ-loop
 slot-holds-requires c κs = search needs
 
-returns : tie.Need-returns Inv-loop μ-loop
-unfolding slotsHold slotHolds
-returns c =
-    let l = c .before .before .before .before .before in
-    sym (upto-false (slotHolds (l .before .args .t1)) 16 (l .loop .i) (omega arith) (fails (c .before .slot-holds .ensures) (c .if1 .taken)))
-
 add-i : tie.Need-add-i Inv-loop μ-loop
 add-i c = search needs
 
@@ -49,13 +46,13 @@ loop-less c = search needs
 loop-again : tie.Need-loop-again Inv-loop μ-loop
 unfolding slotHolds
 loop-again c =
-    let l = c .before .before .before .before .before in
-    let h = held (c .before .slot-holds .ensures) (c .if1 .left) in
-    (search needs, one-more (slotHolds (l .before .args .t1)) (l .loop .i) h (l .loop .inv .1))
+    let l = c .before .before .before .before in
+    let f = slotHolds (l .before .args .t1) in
+    (search needs, one-more f (l .loop .i) (c .slot-holds .result) (l .loop .all) (c .slot-holds .ensures) (l .loop .inv .1))
 
-returns-2 : tie.Need-returns-2 Inv-loop μ-loop
+returns : tie.Need-returns Inv-loop μ-loop
 unfolding slotsHold
-returns-2 c = let l = c .before in sixteen (slotHolds (l .before .args .t1)) (l .loop .i) (omega arith) (l .loop .inv .1)
+returns c = let l = c .before in let e : l .loop .i ≡ 16 = omega arith in l .loop .inv .1 ∙ ap (upto (slotHolds (l .before .args .t1))) e
 
 pub slots-hold-spec : {M : Type 1} → statement M
 slots-hold-spec =
@@ -68,8 +65,7 @@ slots-hold-spec =
     mul-slot-holds
     element-copy-out-slot-holds-2
     slot-holds-requires
-    returns
     add-i
     loop-less
     loop-again
-    returns-2)
+    returns)

@@ -23,7 +23,7 @@ element-write-n c = search needs
 add-n-2 : tie.Need-add-n-2
 add-n-2 c =
     let k = c .before .before .before in
-    record { fits = mag-fits (k .args .m) (k .args .d) (c .struct-known2 .given .1 .1 .0 .fits) (k .pre .1) }
+    record { fits = mag-fits (k .args .m) (k .args .d) (c .struct-known2 .given .1 .1 .1 .1 .0 .fits) (k .pre .1) }
 
 element-write-n-2 : tie.Need-element-write-n-2
 element-write-n-2 c = search needs
