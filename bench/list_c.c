@@ -4,9 +4,8 @@
 #include "step_c.h"
 
 #include "../compare/text.h"
-#include "../include/lpmag.h"
 
-static struct step_state state;
+static struct lpmag_state state;
 static _Alignas(64) uint8_t open_cells[LPMAG_CELLS], finished_cells[LPMAG_CELLS];
 static _Alignas(64) int16_t open_samples[LPMAG_FRAME], finished_samples[LPMAG_FRAME];
 static uint64_t refused;
@@ -22,10 +21,10 @@ static void print_line(const char *kind, uint64_t first, int frames, int cells)
     print_text("\n");
 }
 
-static void print_major(const struct step_major *major)
+static void print_major(const struct lpmag_major *major)
 {
     print_line("major ", 16 * major->number, __builtin_popcount(major->slots),
-               LPMAG_SAMPLES * __builtin_popcount(major->mag));
+               LPMAG_SAMPLES * __builtin_popcount(major->mag_slots));
 }
 
 static void print_accumulation(uint64_t first, uint64_t held)
@@ -36,16 +35,16 @@ static void print_accumulation(uint64_t first, uint64_t held)
 
 static void list_record(const uint8_t *record, size_t length)
 {
-    struct step_report report;
-    if (step_c(&state, open_cells, LPMAG_CELLS, finished_cells, LPMAG_CELLS, open_samples, LPMAG_FRAME,
-               finished_samples, LPMAG_FRAME, record, length, &report) != 0) {
+    struct lpmag_report report;
+    if (step_c(&state, &report, open_cells, LPMAG_CELLS, finished_cells, LPMAG_CELLS, open_samples,
+               LPMAG_FRAME, finished_samples, LPMAG_FRAME, record, length) != LPMAG_OK) {
         refused++;
         return;
     }
-    if (report.major_closed)
-        print_major(&report.major);
-    if (report.accumulation_closed)
-        print_accumulation(report.first, report.held);
+    if (report.closed.major_closed)
+        print_major(&report.closed.major);
+    if (report.closed.accumulation_closed)
+        print_accumulation(report.closed.accumulation_first, report.closed.accumulation_held);
 }
 
 /* What is still open is handed out as it is. */
@@ -53,8 +52,8 @@ static void list_end(void)
 {
     if (state.major.slots != 0)
         print_major(&state.major);
-    if (state.held != 0)
-        print_accumulation(state.first, state.held);
+    if (state.accumulation.held != 0)
+        print_accumulation(state.accumulation.first, state.accumulation.held);
     print_text("refused ");
     print_number(refused);
     print_text("\n");

@@ -1,5 +1,5 @@
-/* How long a record takes: lpmag_step of include/lpmag.h and the same in C, by turns
- * over the same stream of records. */
+/* How long a record takes: lpmag_step and lpmag_feed of include/lpmag.h and the same in C,
+ * by turns over the same stream of records. */
 #include "step_c.h"
 #include "timing.h"
 
@@ -7,8 +7,8 @@
 #include "../compare/random.h"
 #include "../compare/second_reader.h"
 #include "../compare/text.h"
-#include "../include/lpmag.h"
 
+#include <stdbool.h>
 #include <system.h>
 
 /* The stream is a ring of different records gone round many times, with counts that
@@ -60,103 +60,51 @@ static void set_counts(uint32_t round)
 
 /* ---- what is lent ----------------------------------------------------- */
 
-/* The four buffers of one implementation. */
-struct buffers {
+/* To one implementation. */
+struct lent {
+    struct lpmag_state state;
+    struct lpmag_report report;
+    struct lpmag_fed fed;
     _Alignas(64) uint8_t open_cells[LPMAG_CELLS];
     _Alignas(64) uint8_t finished_cells[LPMAG_CELLS];
     _Alignas(64) int16_t open_samples[LPMAG_FRAME];
     _Alignas(64) int16_t finished_samples[LPMAG_FRAME];
 };
 
-/* One that has the state and the report in bytes, and the one that has structs. */
-struct in_bytes {
-    uint8_t state[LPMAG_STATE];
-    uint8_t report[LPMAG_REPORT];
-    struct buffers buffers;
+typedef uint8_t step(struct lpmag_state *, struct lpmag_report *, uint8_t *, size_t, uint8_t *, size_t,
+                     int16_t *, size_t, int16_t *, size_t, const uint8_t *, size_t);
+typedef uint8_t feed(struct lpmag_state *, struct lpmag_fed *, uint8_t *, size_t, uint8_t *, size_t,
+                     int16_t *, size_t, int16_t *, size_t, const uint8_t *, size_t);
+
+struct functions {
+    step *step;
+    feed *feed;
 };
 
-struct in_structs {
-    struct step_state state;
-    struct step_report report;
-    struct buffers buffers;
-};
+static const struct functions first = {lpmag_step, lpmag_feed};
+static const struct functions in_c = {step_c, feed_c};
+static const struct functions second = {second_step, second_feed};
 
-typedef uint8_t step(uint8_t *, size_t, uint8_t *, size_t, uint8_t *, size_t, int16_t *, size_t, int16_t *,
-                     size_t, const uint8_t *, size_t, uint8_t *, size_t);
-
-static uint8_t step_bytes(step *function, struct in_bytes *lent, const uint8_t *record, size_t length)
+static uint8_t call_step(const struct functions *of, struct lent *lent, const uint8_t *record, size_t length)
 {
-    struct buffers *buffers = &lent->buffers;
-    return function(lent->state, LPMAG_STATE, buffers->open_cells, LPMAG_CELLS, buffers->finished_cells,
-                    LPMAG_CELLS, buffers->open_samples, LPMAG_FRAME, buffers->finished_samples, LPMAG_FRAME,
-                    record, length, lent->report, LPMAG_REPORT);
+    return of->step(&lent->state, &lent->report, lent->open_cells, LPMAG_CELLS, lent->finished_cells,
+                    LPMAG_CELLS, lent->open_samples, LPMAG_FRAME, lent->finished_samples, LPMAG_FRAME, record,
+                    length);
 }
 
-static uint8_t step_structs(struct in_structs *lent, const uint8_t *record, size_t length)
+static uint8_t call_feed(const struct functions *of, struct lent *lent, const uint8_t *bytes, size_t length)
 {
-    struct buffers *buffers = &lent->buffers;
-    return step_c(&lent->state, buffers->open_cells, LPMAG_CELLS, buffers->finished_cells, LPMAG_CELLS,
-                  buffers->open_samples, LPMAG_FRAME, buffers->finished_samples, LPMAG_FRAME, record, length,
-                  &lent->report);
+    return of->feed(&lent->state, &lent->fed, lent->open_cells, LPMAG_CELLS, lent->finished_cells,
+                    LPMAG_CELLS, lent->open_samples, LPMAG_FRAME, lent->finished_samples, LPMAG_FRAME, bytes,
+                    length);
 }
 
 /* ---- that all do the same --------------------------------------------- */
 
-/* Writes a number, most significant byte first, and answers the place after it. */
-static uint8_t *put(uint8_t *place, size_t size, uint64_t number)
-{
-    for (size_t i = size; i > 0; i--, number >>= 8)
-        place[i - 1] = (uint8_t)number;
-    return place + size;
-}
-
-static uint8_t *put_major(uint8_t *place, const struct step_major *major)
-{
-    place = put(place, 8, major->number);
-    place = put(place, 2, major->slots);
-    place = put(place, 2, major->mag);
-    for (size_t slot = 0; slot < 16; slot++)
-        place = put(place, 1, major->ranges[slot]);
-    for (size_t slot = 0; slot < 16; slot++)
-        place = put(place, 2, major->words[slot]);
-    return place;
-}
-
-/* The structs in bytes as include/lpmag.h lays them out. */
-static void put_state(uint8_t *place, const struct step_state *state)
-{
-    place = put(place, 1, state->accepted);
-    place = put(place, 8, state->last_accepted);
-    place = put(place, 8, state->first);
-    place = put(place, 8, state->held);
-    place = put(place, 1, state->type);
-    place = put(place, 8, state->last);
-    place = put(place, 8, state->others);
-    put_major(place, &state->major);
-}
-
-static void put_report(uint8_t *place, const struct step_report *report)
-{
-    place = put(place, 4, report->count);
-    place = put(place, 2, report->day);
-    place = put(place, 4, report->millisecond);
-    for (size_t i = 0; i < 3; i++)
-        place = put(place, 1, report->flags[i]);
-    place = put(place, 1, report->code);
-    place = put(place, 1, report->type);
-    place = put(place, 1, report->kind);
-    place = put(place, 2, report->subcom);
-    place = put(place, 1, report->level_finite);
-    place = put(place, 4, report->level);
-    place = put(place, 1, report->quality_finite);
-    place = put(place, 4, report->quality);
-    place = put(place, 1, report->fate);
-    place = put(place, 1, report->major_closed);
-    place = put_major(place, &report->major);
-    place = put(place, 1, report->accumulation_closed);
-    place = put(place, 8, report->first);
-    put(place, 8, report->held);
-}
+/* What is lent to each of the three. */
+struct all {
+    struct lent first, in_c, second;
+};
 
 static void expect_same(const void *one, const void *other, size_t length)
 {
@@ -164,125 +112,174 @@ static void expect_same(const void *one, const void *other, size_t length)
         fail(1, "bench: the states, reports or buffers aren't equal");
 }
 
-static void expect_same_buffers(const struct buffers *one, const struct buffers *other)
+static void expect_same_lent(const struct lent *one, const struct lent *other)
 {
+    expect_same(&one->state, &other->state, sizeof one->state);
+    expect_same(&one->report, &other->report, sizeof one->report);
+    expect_same(&one->fed, &other->fed, sizeof one->fed);
     expect_same(one->open_cells, other->open_cells, sizeof one->open_cells);
     expect_same(one->finished_cells, other->finished_cells, sizeof one->finished_cells);
     expect_same(one->open_samples, other->open_samples, sizeof one->open_samples);
     expect_same(one->finished_samples, other->finished_samples, sizeof one->finished_samples);
 }
 
-static void expect_same_in_structs(const struct in_bytes *one, const struct in_structs *other)
+static void expect_all_same(const struct all *all)
 {
-    uint8_t state[LPMAG_STATE], report[LPMAG_REPORT];
-    put_state(state, &other->state);
-    put_report(report, &other->report);
-    expect_same(one->state, state, sizeof state);
-    expect_same(one->report, report, sizeof report);
-    expect_same_buffers(&one->buffers, &other->buffers);
+    expect_same_lent(&all->first, &all->second);
+    expect_same_lent(&all->in_c, &all->second);
 }
 
-/* One record through all three. */
-static void expect_equal_step(struct in_bytes *first, struct in_structs *in_c, struct in_bytes *second,
-                              const uint8_t *record, size_t length, uint8_t expected)
+static void expect_step(struct all *all, const uint8_t *record, size_t length, uint8_t expected)
 {
-    if (step_bytes(lpmag_step, first, record, length) != expected ||
-        step_structs(in_c, record, length) != expected ||
-        step_bytes(second_step, second, record, length) != expected)
+    if (call_step(&first, &all->first, record, length) != expected ||
+        call_step(&in_c, &all->in_c, record, length) != expected ||
+        call_step(&second, &all->second, record, length) != expected)
         fail(1, "bench: a record has another answer than it has to");
-    expect_same(first->state, second->state, LPMAG_STATE);
-    expect_same(first->report, second->report, LPMAG_REPORT);
-    expect_same_buffers(&first->buffers, &second->buffers);
-    expect_same_in_structs(second, in_c);
+    expect_all_same(all);
 }
 
-/* A round and the start of the next; each record is also given cut short and a
- * second time. */
-static void expect_equal_steps(void)
+static void expect_feed(struct all *all, const uint8_t *bytes, size_t length, uint8_t expected)
 {
-    static struct in_bytes first, second;
-    static struct in_structs in_c;
+    if (call_feed(&first, &all->first, bytes, length) != expected ||
+        call_feed(&in_c, &all->in_c, bytes, length) != expected ||
+        call_feed(&second, &all->second, bytes, length) != expected)
+        fail(1, "bench: a feed has another answer than it has to");
+    expect_all_same(all);
+}
+
+/* Some records by steps; each is also given cut short and a second time. */
+static void expect_equal_steps(struct all *all, size_t count)
+{
+    for (size_t i = 0; i < count; i++) {
+        expect_step(all, records[i], LPMAG_RECORD - 1, 2);
+        expect_step(all, records[i], LPMAG_RECORD, LPMAG_OK);
+        expect_step(all, records[i], LPMAG_RECORD, 12);
+    }
+}
+
+/* The same records by feeds of any length, none and half a record among them; sometimes the last one
+ * taken is given once more, and is refused. */
+static void expect_equal_feeds(struct all *all, struct random *random, size_t count)
+{
+    const uint8_t *bytes = records[0];
+    size_t at = 0;
+    while (at < count * LPMAG_RECORD) {
+        size_t left = count * LPMAG_RECORD - at;
+        size_t length = random_below(random, 40 * LPMAG_RECORD);
+        expect_feed(all, bytes + at, length < left ? length : left, LPMAG_OK);
+        at += all->first.fed.taken;
+        if (at > 0 && random_once_in(random, 10))
+            at -= LPMAG_RECORD;
+    }
+}
+
+static void set_spares(struct all *all, uint8_t byte)
+{
+    all->first.state.spare8 = byte;
+    all->in_c.state.spare8 = byte;
+    all->second.state.spare8 = byte;
+}
+
+/* What is no state is refused, where there is a record and where there is none. */
+static void expect_rule_1(struct all *all)
+{
+    set_spares(all, 1);
+    expect_step(all, records[0], LPMAG_RECORD, 1);
+    expect_feed(all, records[0], LPMAG_RECORD, 1);
+    expect_feed(all, records[0], 0, 1);
+    set_spares(all, 0);
+}
+
+/* A round and the start of the next, by steps and by feeds: both leave the same. */
+static void expect_equal(void)
+{
+    static struct all by_steps, by_feeds;
+    struct random random = {1999};
     for (uint32_t round = 0; round < 2; round++) {
+        size_t count = round == 0 ? RING : 1000;
         set_counts(round);
-        for (size_t i = 0; i < (round == 0 ? RING : 1000); i++) {
-            expect_equal_step(&first, &in_c, &second, records[i], LPMAG_RECORD - 1, 2);
-            expect_equal_step(&first, &in_c, &second, records[i], LPMAG_RECORD, 0);
-            expect_equal_step(&first, &in_c, &second, records[i], LPMAG_RECORD, 12);
-        }
+        expect_rule_1(&by_steps);
+        expect_equal_steps(&by_steps, count);
+        expect_equal_feeds(&by_feeds, &random, count);
+        expect_same(&by_steps.first.state, &by_feeds.first.state, sizeof by_steps.first.state);
     }
 }
 
 /* ---- how long they take ----------------------------------------------- */
 
-static void expect_none_refused(unsigned refused)
+/* The records of a round, taken by one implementation. */
+typedef void taking(const struct functions *, struct lent *);
+
+static void take_by_steps(const struct functions *of, struct lent *lent)
 {
+    unsigned refused = 0;
+    for (size_t i = 0; i < RING; i++)
+        refused |= call_step(of, lent, records[i], LPMAG_RECORD);
     if (refused != 0)
         fail(1, "bench: a record was refused");
 }
 
-static uint64_t time_first(struct in_bytes *lent)
+static void take_by_feeds(const struct functions *of, struct lent *lent)
 {
-    unsigned refused = 0;
-    uint64_t start = nanoseconds();
-    for (size_t i = 0; i < RING; i++)
-        refused |= step_bytes(lpmag_step, lent, records[i], LPMAG_RECORD);
-    uint64_t time = nanoseconds() - start;
-    expect_none_refused(refused);
-    return time;
+    for (size_t at = 0; at < sizeof records; at += lent->fed.taken)
+        if (call_feed(of, lent, records[0] + at, sizeof records - at) != LPMAG_OK ||
+            lent->fed.answer != LPMAG_OK || lent->fed.taken == 0)
+            fail(1, "bench: a record was refused");
 }
 
-static uint64_t time_in_c(struct in_structs *lent)
+static uint64_t time_round(taking *take, const struct functions *of, struct lent *lent)
 {
-    unsigned refused = 0;
     uint64_t start = nanoseconds();
-    for (size_t i = 0; i < RING; i++)
-        refused |= step_structs(lent, records[i], LPMAG_RECORD);
-    uint64_t time = nanoseconds() - start;
-    expect_none_refused(refused);
-    return time;
+    take(of, lent);
+    return nanoseconds() - start;
 }
 
 /* The whole stream from the fresh state, each round by one and then by the other,
  * each as often before the other as after it. */
-static void time_stream(struct timings *first_times, struct timings *c_times)
+static void time_stream(taking *take, struct timings *first_times, struct timings *c_times)
 {
-    static struct in_bytes first;
-    static struct in_structs in_c;
-    memset(&first, 0, sizeof first);
-    memset(&in_c, 0, sizeof in_c);
+    static struct lent to_first, to_c;
+    memset(&to_first, 0, sizeof to_first);
+    memset(&to_c, 0, sizeof to_c);
     for (uint32_t round = 0; round < ROUNDS; round++) {
         set_counts(round);
         if (round % 2 == 0)
-            add_timing(first_times, time_first(&first));
-        add_timing(c_times, time_in_c(&in_c));
+            add_timing(first_times, time_round(take, &first, &to_first));
+        add_timing(c_times, time_round(take, &in_c, &to_c));
         if (round % 2 != 0)
-            add_timing(first_times, time_first(&first));
+            add_timing(first_times, time_round(take, &first, &to_first));
     }
-    expect_same_in_structs(&first, &in_c);
+    expect_same_lent(&to_first, &to_c);
 }
 
-int main(void)
+static void measure(const char *title, taking *take)
 {
-    static struct timings first, in_c;
-    make_stream();
-    expect_equal_steps();
+    struct timings first_times = {0}, c_times = {0};
     for (unsigned i = 0; i < REPEATS; i++)
-        time_stream(&first, &in_c);
-    sort_timings(&first);
-    sort_timings(&in_c);
+        time_stream(take, &first_times, &c_times);
+    sort_timings(&first_times);
+    sort_timings(&c_times);
 
-    print_text("step, ");
+    print_text(title);
     print_number(RING * ROUNDS);
     print_text(" records with losses and other frames, in timings of ");
     print_number(RING);
     print_text(", ");
     print_number(REPEATS);
     print_text(" times\n");
-    print_times("first: ", &first, RING, "record");
-    print_rates("first: ", &first, RING, "records");
-    print_times("C: ", &in_c, RING, "record");
-    print_rates("C: ", &in_c, RING, "records");
-    print_ratios("first / C: ", &first, &in_c);
+    print_times("first: ", &first_times, RING, "record");
+    print_rates("first: ", &first_times, RING, "records");
+    print_times("C: ", &c_times, RING, "record");
+    print_rates("C: ", &c_times, RING, "records");
+    print_ratios("first / C: ", &first_times, &c_times);
+}
+
+int main(void)
+{
+    make_stream();
+    expect_equal();
+    measure("step, ", take_by_steps);
+    measure("feed, many records a call, ", take_by_feeds);
     print_flush();
     return 0;
 }

@@ -6,6 +6,7 @@
 #include <system.h>
 
 static const char *const names[FUNCTIONS] = {
+    [VERSION] = "version",
     [WORD16] = "word16",
     [WORD24] = "word24",
     [WORD32] = "word32",
@@ -15,11 +16,13 @@ static const char *const names[FUNCTIONS] = {
     [FIELDS] = "fields",
     [PACKET] = "packet",
     [KIND] = "kind",
+    [REFUSAL_WORDS] = "refusal_words",
     [RANGE] = "range",
     [SAMPLES] = "samples",
     [FIELD] = "field",
     [LAY_ELECTRONS] = "lay_electrons",
     [CELL] = "cell",
+    [BIN_SAMPLES] = "bin_samples",
     [ELECTRON_SAMPLE] = "electron_sample",
     [THREE_D] = "three_d",
     [TOTAL] = "total",
@@ -28,6 +31,7 @@ static const char *const names[FUNCTIONS] = {
     [COUNT_SUM] = "count_sum",
     [ANGLE] = "angle",
     [STEP] = "step",
+    [FEED] = "feed",
     [FINISH] = "finish",
     [MAJOR_WORD] = "major_word",
     [MAJOR_SAMPLE] = "major_sample",
@@ -48,7 +52,7 @@ void begin(struct drive *drive, const char *phase)
     print_flush();
 }
 
-static void print_hex_line(const char *title, const uint8_t *bytes, size_t length)
+static void print_hex_line(const char *title, const void *bytes, size_t length)
 {
     print_text(title);
     print_hex(bytes, length);
@@ -81,7 +85,7 @@ static void print_question(const struct drive *drive, const struct question *que
         print_number_line(": ", question->also[i].number);
     }
     if (drive->state != NULL)
-        print_hex_line("the state it has: ", drive->state, LPMAG_STATE);
+        print_hex_line("the state it has: ", drive->state, sizeof *drive->state);
 }
 
 _Noreturn static void stop(void)
@@ -108,12 +112,18 @@ void same_rooms(struct drive *drive, const struct question *question, const stru
     const char *wrong = rooms_wrong(rooms, kept);
     if (wrong == NULL)
         return;
-    size_t whole = LEND_GUARD + rooms->length + LEND_GUARD;
+    size_t whole = rooms_whole(rooms);
     print_question(drive, question);
     print_text(wrong);
     print_text("\n");
+    if (rooms->name != NULL) {
+        print_text("the room is that of ");
+        print_text(rooms->name);
+        print_text("\n");
+    }
     print_number_line("bytes in the room: ", rooms->length);
-    print_number_line("bytes on either side of it: ", LEND_GUARD);
+    print_number_line("bytes before it: ", rooms->at);
+    print_number_line("bytes after it: ", LEND_GUARD);
     print_hex_line("as found: ", rooms->found.bytes, whole);
     print_hex_line("after the first: ", rooms->first.bytes, whole);
     print_hex_line("after the second: ", rooms->second.bytes, whole);
@@ -169,14 +179,24 @@ void expect_range(struct drive *drive, const struct question *question, const st
     stop();
 }
 
+/* Where two that differ do so first. */
+static size_t first_difference(const uint8_t *one, const uint8_t *other)
+{
+    size_t at = 0;
+    while (one[at] == other[at])
+        at++;
+    return at;
+}
+
 void expect_bytes(struct drive *drive, const struct question *question, const char *what,
-                  const uint8_t *found, const uint8_t *expected, size_t length)
+                  const void *found, const void *expected, size_t length)
 {
     if (memcmp(found, expected, length) == 0)
         return;
     print_question(drive, question);
     print_text(what);
     print_text("\n");
+    print_number_line("first at byte: ", first_difference(found, expected));
     print_hex_line("both have: ", found, length);
     print_hex_line("but it has to be: ", expected, length);
     stop();

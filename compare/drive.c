@@ -9,17 +9,43 @@ _Static_assert(LPMAG_RECORD == SECOND_RECORD && LPMAG_PACKET == SECOND_PACKET &&
                    LPMAG_PACKET_AT == SECOND_PACKET_AT && LPMAG_MAG == SECOND_MAG &&
                    LPMAG_MAG_AT == SECOND_MAG_AT && LPMAG_SAMPLES == SECOND_SAMPLES &&
                    LPMAG_SCIENCE == SECOND_SCIENCE && LPMAG_SCIENCE_AT == SECOND_SCIENCE_AT &&
-                   LPMAG_CELLS == SECOND_CELLS && LPMAG_FIELDS == SECOND_FIELDS &&
-                   LPMAG_FRAME == SECOND_FRAME && LPMAG_STATE == SECOND_STATE &&
-                   LPMAG_MAJOR == SECOND_MAJOR && LPMAG_CLOSED == SECOND_CLOSED &&
-                   LPMAG_REPORT == SECOND_REPORT,
+                   LPMAG_CELLS == SECOND_CELLS && LPMAG_FRAME == SECOND_FRAME,
                "both headers name the same sizes and places");
-_Static_assert(LPMAG_OTHER == SECOND_OTHER && LPMAG_UNDEFINED == SECOND_UNDEFINED &&
-                   LPMAG_NO_SUCH_PLACE == SECOND_NO_SUCH_PLACE && LPMAG_ABSENT == SECOND_ABSENT &&
-                   LPMAG_SCALE_UNKNOWN == SECOND_SCALE_UNKNOWN && LPMAG_TOO_LARGE == SECOND_TOO_LARGE &&
-                   LPMAG_NO_SUCH_BIN == SECOND_NO_SUCH_BIN && LPMAG_OPENS == SECOND_OPENS &&
-                   LPMAG_JOINS == SECOND_JOINS && LPMAG_NEITHER == SECOND_NEITHER,
-               "both headers name the same kinds and answers");
+
+/* Each function of either header has the parameters of the other's. */
+#define SAME_PROTOTYPE(name)                                                        \
+    _Static_assert(_Generic(lpmag_##name, __typeof__(&second_##name) : 1, default : 0), \
+                   "lpmag_" #name " and second_" #name " have the same parameters")
+SAME_PROTOTYPE(version);
+SAME_PROTOTYPE(word16);
+SAME_PROTOTYPE(word24);
+SAME_PROTOTYPE(word32);
+SAME_PROTOTYPE(twelve_least);
+SAME_PROTOTYPE(twelve_most);
+SAME_PROTOTYPE(check);
+SAME_PROTOTYPE(fields);
+SAME_PROTOTYPE(packet);
+SAME_PROTOTYPE(kind);
+SAME_PROTOTYPE(refusal_words);
+SAME_PROTOTYPE(range);
+SAME_PROTOTYPE(samples);
+SAME_PROTOTYPE(field);
+SAME_PROTOTYPE(lay_electrons);
+SAME_PROTOTYPE(cell);
+SAME_PROTOTYPE(bin_samples);
+SAME_PROTOTYPE(electron_sample);
+SAME_PROTOTYPE(three_d);
+SAME_PROTOTYPE(total);
+SAME_PROTOTYPE(rate);
+SAME_PROTOTYPE(count_range);
+SAME_PROTOTYPE(count_sum);
+SAME_PROTOTYPE(angle);
+SAME_PROTOTYPE(step);
+SAME_PROTOTYPE(feed);
+SAME_PROTOTYPE(finish);
+SAME_PROTOTYPE(major_word);
+SAME_PROTOTYPE(major_sample);
+SAME_PROTOTYPE(major_field);
 
 /* Prints how often something was met; ends the program if it never was. */
 static void print_met(const char *what, uint64_t times)
@@ -43,37 +69,32 @@ static uint64_t rarest(const uint64_t *times, size_t length)
 /* Each answer that the questions can give, and laying and counts. */
 static void print_answers_met(const struct drive *drive)
 {
-    enum {
-        VALUE = 1u << 0,
-        PLACE = 1u << LPMAG_NO_SUCH_PLACE,
-        ABSENT = 1u << LPMAG_ABSENT,
-        SCALE = 1u << LPMAG_SCALE_UNKNOWN,
-        LARGE = 1u << LPMAG_TOO_LARGE
-    };
+    enum { MOST_ANSWERS = 4 };
     static const struct {
         enum function function;
-        unsigned answers;
+        size_t count;
+        uint8_t answers[MOST_ANSWERS];
     } given[] = {
-        {LAY_ELECTRONS, VALUE | PLACE},
-        {CELL, VALUE | PLACE | ABSENT},
-        {ELECTRON_SAMPLE, VALUE | PLACE | ABSENT | SCALE},
-        {THREE_D, VALUE | PLACE | ABSENT},
-        {TOTAL, VALUE | PLACE | ABSENT},
-        {RATE, VALUE | PLACE | ABSENT},
-        {COUNT_RANGE, VALUE | PLACE},
-        {COUNT_SUM, VALUE | LARGE},
-        {MAJOR_WORD, VALUE | PLACE | ABSENT},
-        {MAJOR_SAMPLE, VALUE | PLACE | ABSENT},
-        {MAJOR_FIELD, VALUE | PLACE | ABSENT},
+        {LAY_ELECTRONS, 2, {LPMAG_OK, LPMAG_NO_SUCH_PLACE}},
+        {CELL, 3, {LPMAG_OK, LPMAG_NO_SUCH_PLACE, LPMAG_ABSENT}},
+        {BIN_SAMPLES, 4, {2, 4, 32, LPMAG_NO_SUCH_BIN}},
+        {ELECTRON_SAMPLE, 4, {LPMAG_OK, LPMAG_NO_SUCH_PLACE, LPMAG_ABSENT, LPMAG_SCALE_UNKNOWN}},
+        {THREE_D, 3, {LPMAG_OK, LPMAG_NO_SUCH_PLACE, LPMAG_ABSENT}},
+        {TOTAL, 3, {LPMAG_OK, LPMAG_NO_SUCH_PLACE, LPMAG_ABSENT}},
+        {RATE, 3, {LPMAG_OK, LPMAG_NO_SUCH_PLACE, LPMAG_ABSENT}},
+        {COUNT_RANGE, 2, {LPMAG_OK, LPMAG_NO_SUCH_PLACE}},
+        {COUNT_SUM, 2, {LPMAG_OK, LPMAG_TOO_LARGE}},
+        {MAJOR_WORD, 3, {LPMAG_OK, LPMAG_NO_SUCH_PLACE, LPMAG_ABSENT}},
+        {MAJOR_SAMPLE, 3, {LPMAG_OK, LPMAG_NO_SUCH_PLACE, LPMAG_ABSENT}},
+        {MAJOR_FIELD, 3, {LPMAG_OK, LPMAG_NO_SUCH_PLACE, LPMAG_ABSENT}},
     };
     for (size_t i = 0; i < sizeof given / sizeof given[0]; i++)
-        for (unsigned answer = 0; answer <= LPMAG_TOO_LARGE; answer++)
-            if (given[i].answers >> answer & 1) {
-                print_text(function_name(given[i].function));
-                print_text(" with answer ");
-                print_number(answer);
-                print_met("", drive->answers[given[i].function][answer]);
-            }
+        for (size_t j = 0; j < given[i].count; j++) {
+            print_text(function_name(given[i].function));
+            print_text(" with answer ");
+            print_number(given[i].answers[j]);
+            print_met("", drive->answers[given[i].function][given[i].answers[j]]);
+        }
 }
 
 static void print_electrons_met(const struct drive *drive)
@@ -119,16 +140,18 @@ static uint64_t rarest_taken(const uint64_t (*times)[16])
     return least;
 }
 
+static const char *const call_names[CALLS] = {[BY_STEP] = "step", [BY_FEED] = "feed", [BY_FINISH] = "finish"};
+
 static void print_closed_met(const struct drive *drive)
 {
-    static const char *const by[2] = {"records that close ", "finishes that close "};
+    static const char *const by[CALLS] = {"records that close ", "feeds that close ", "finishes that close "};
     static const char *const what[2][2] = {{"nothing", "an accumulation alone"},
                                            {"a major frame alone", "both"}};
-    for (size_t finish = 0; finish < 2; finish++)
+    for (enum call call = 0; call < CALLS; call++)
         for (size_t major = 0; major < 2; major++)
             for (size_t accumulation = 0; accumulation < 2; accumulation++) {
-                print_text(by[finish]);
-                print_met(what[major][accumulation], drive->closed[finish][major][accumulation]);
+                print_text(by[call]);
+                print_met(what[major][accumulation], drive->closed[call][major][accumulation]);
             }
 }
 
@@ -153,29 +176,64 @@ static void print_joining_met(const struct drive *drive)
     print_met("real-time frames taken, of the rarest type and slot", rarest_taken(drive->taken));
 }
 
-static void print_states_met(const struct drive *drive)
+static void print_broken_met(const struct drive *drive, enum call call)
 {
-    static const char *const sized[SIZED] = {
-        [STATE] = "the state",
-        [OPEN_CELLS] = "the open cells",
-        [FINISHED_CELLS] = "the finished cells",
-        [OPEN_SAMPLES] = "the open samples",
-        [FINISHED_SAMPLES] = "the finished samples",
-        [REPORT] = "the report",
-    };
-    print_met("states at random that keep the list", drive->passing);
     for (enum clause clause = 0; clause < CLAUSES; clause++) {
         if (clause == FIRST_COUNT_BELOW || clause == LAST_COUNT_BELOW)
             continue; /* never broken alone */
-        print_text("states that break only \"");
+        print_text(call_names[call]);
+        print_text(" with a state that breaks only \"");
         print_text(clause_name(clause));
-        print_met("\"", drive->broken[clause]);
+        print_met("\"", drive->broken[call][clause]);
     }
-    for (size_t finish = 0; finish < 2; finish++)
-        for (enum sized room = 0; room < SIZED; room++) {
-            print_text(finish ? "finish with a wrong size of " : "step with a wrong size of ");
-            print_met(sized[room], drive->wrong_sizes[finish][room]);
-        }
+    for (enum lent_room room = 0; room < SIZED; room++) {
+        print_text(call_names[call]);
+        print_text(" with a wrong size of ");
+        print_met(room_name(room), drive->wrong_sizes[call][room]);
+    }
+}
+
+static void print_structs_met(const struct drive *drive, enum call call)
+{
+    print_text(call_names[call]);
+    print_met(" with the fresh state", drive->fresh[call]);
+    print_text(call_names[call]);
+    print_met(" with the rarest flag byte in the fresh state", rarest(drive->flags[call][true], 256));
+    print_text(call_names[call]);
+    print_met(" with the rarest flag byte in another", rarest(drive->flags[call][false], 256));
+    print_text(call_names[call]);
+    print_met(" with the rarest bit of the spare fields", rarest(drive->spares[call], SPARE_BITS));
+    print_text(call_names[call]);
+    print_met(" with every field known and different", drive->structs[call]);
+}
+
+/* A record of feed has its length, so rule 2 is never met there, and rule 1 is feed's own
+ * answer. */
+static void print_fed_met(const struct drive *drive)
+{
+    static const char *const records[GIVEN] = {"no whole record", "one record", "many records"};
+    print_met("feed with answer 0", drive->feeds[LPMAG_OK]);
+    print_met("feed with answer 1", drive->feeds[1]);
+    print_met("feeds of which the last record is accepted", drive->fed[LPMAG_OK]);
+    for (unsigned number = 3; number <= 12; number++) {
+        print_text("feeds of which the last record is refused with ");
+        print_number(number);
+        print_met("", drive->fed[number]);
+    }
+    for (enum given given = 0; given < GIVEN; given++) {
+        print_text("feeds that take ");
+        print_met(records[given], drive->fed_taken[given]);
+        print_text("feeds that leave nothing else and ");
+        print_met(records[given], drive->fed_left[false][given]);
+        print_text("feeds that leave a part of a record and ");
+        print_met(records[given], drive->fed_left[true][given]);
+        print_text("feeds with a wrong size and ");
+        print_met(records[given], drive->fed_broken[false][given]);
+        print_text("feeds with a broken state and ");
+        print_met(records[given], drive->fed_broken[true][given]);
+    }
+    print_met("feeds of the rarest length up to three records and a byte",
+              rarest(drive->fed_lengths, sizeof drive->fed_lengths / sizeof drive->fed_lengths[0]));
 }
 
 /* Rule 13 is never met: no state that keeps the list holds a type above its last. */
@@ -186,13 +244,16 @@ static void print_reader_met(const struct drive *drive)
         print_number(answer);
         print_met("", drive->steps[answer]);
     }
-    print_met("finish with answer 0", drive->finishes[0]);
+    print_met("finish with answer 0", drive->finishes[LPMAG_OK]);
     print_met("finish with answer 1", drive->finishes[1]);
-    print_met("records accepted with the fresh state", drive->fresh[false]);
-    print_met("finishes of the fresh state", drive->fresh[true]);
+    print_fed_met(drive);
     print_closed_met(drive);
     print_joining_met(drive);
-    print_states_met(drive);
+    print_met("states at random that keep the list", drive->passing);
+    for (enum call call = 0; call < CALLS; call++) {
+        print_broken_met(drive, call);
+        print_structs_met(drive, call);
+    }
     print_met("records kept of those sent in order", drive->sent_kept);
     print_met("real-time ones of them", drive->sent_real_time);
     print_met("accumulations handed out whole", drive->accumulations_whole);
@@ -221,8 +282,11 @@ static void print_all_met(const struct drive *drive)
     print_met("real-time packets, of the rarest type among 0 to 35", rarest(drive->kinds, 36));
     print_met("other packets", drive->kinds[LPMAG_OTHER]);
     print_met("undefined packets", drive->kinds[LPMAG_UNDEFINED]);
+    print_met("words of the rarest refusal among 1 to 13", rarest(drive->words + 1, 13));
+    print_met("words of another number", drive->words[0]);
+    print_met("words in a room that is too small", drive->words_not_given);
     print_met("MAG bytes, of the rarest range among 0 to 7", rarest(drive->ranges, 8));
-    print_met("MAG bytes or rooms of no such place", drive->ranges[SECOND_NO_SUCH_PLACE]);
+    print_met("MAG bytes or rooms of no such place", drive->ranges[LPMAG_NO_SUCH_PLACE]);
     print_answers_met(drive);
     print_electrons_met(drive);
     print_reader_met(drive);
@@ -246,10 +310,13 @@ int main(int argc, char **argv)
     drive_counts(&drive);
     drive_questions(&drive);
     drive_reader(&drive);
+    drive_feed(&drive);
     drive_sent(&drive);
     drive_states(&drive);
+    drive_structs(&drive);
     drive_refusals(&drive);
     drive_major(&drive);
+    drive_layer(&drive);
 
     print_all_met(&drive);
     print_text("compare: all equal\n");

@@ -18,6 +18,7 @@
 
 /* The functions compared, in the header's order. */
 enum function {
+    VERSION,
     WORD16,
     WORD24,
     WORD32,
@@ -27,11 +28,13 @@ enum function {
     FIELDS,
     PACKET,
     KIND,
+    REFUSAL_WORDS,
     RANGE,
     SAMPLES,
     FIELD,
     LAY_ELECTRONS,
     CELL,
+    BIN_SAMPLES,
     ELECTRON_SAMPLE,
     THREE_D,
     TOTAL,
@@ -40,6 +43,7 @@ enum function {
     COUNT_SUM,
     ANGLE,
     STEP,
+    FEED,
     FINISH,
     MAJOR_WORD,
     MAJOR_SAMPLE,
@@ -50,9 +54,10 @@ enum function {
 const char *function_name(enum function function);
 
 /* The clauses of 01's state list, in its order; before them what the header says
- * of byte 0. */
+ * of the flag and the spare fields. */
 enum clause {
-    ACCEPTED_IS_0_OR_1,
+    FLAG_IS_0_OR_1,
+    SPARES_ARE_0,
     LAST_ACCEPTED_BELOW,
     FIRST_COUNT_BELOW,
     LAST_COUNT_BELOW,
@@ -78,28 +83,53 @@ const char *clause_name(enum clause clause);
  * g is u - t - 2, u - t - 1, 34 + (u - t), 35 + (u - t). */
 enum edge { ONE_BELOW, LEAST, MOST, ONE_ABOVE, EDGES };
 
-/* What a wrong size can be of, for the reader's functions. */
-enum sized { STATE, OPEN_CELLS, FINISHED_CELLS, OPEN_SAMPLES, FINISHED_SAMPLES, REPORT, SIZED };
+/* What is lent to the reader's functions to write: the buffers, which have a size that
+ * can be wrong, the state, and what the call tells (its report, what it was fed or what
+ * it closed). */
+enum lent_room {
+    OPEN_CELLS,
+    FINISHED_CELLS,
+    OPEN_SAMPLES,
+    FINISHED_SAMPLES,
+    SIZED,
+    STATE = SIZED,
+    TOLD,
+    ROOMS
+};
+
+const char *room_name(enum lent_room room);
+
+/* The reader's functions, for counting. */
+enum call { BY_STEP, BY_FEED, BY_FINISH, CALLS };
+
+/* The bits of all spare fields of a state: the state's own, then those of the
+ * accumulation, of 8, 16 and 32 bits each, then the major frame's 32. */
+enum { SPARES = 8 + 16 + 32, SPARE_BITS = 2 * SPARES + 32 };
+
+/* How many whole records there are, for counting what is fed. */
+enum given { NO_RECORD, ONE_RECORD, MANY_RECORDS, GIVEN };
 
 struct drive {
     struct random random;
-    const char *phase;    /* what is being compared */
-    const uint8_t *state; /* that the reader is called with, LPMAG_STATE bytes, or null */
+    const char *phase;               /* what is being compared */
+    const struct lpmag_state *state; /* that the reader is called with, or null */
 
     /* What was met, for the end: a comparison that saw nothing proves nothing. */
-    uint64_t calls[FUNCTIONS];                 /* pairs of calls */
-    uint64_t kept_rooms;                       /* rooms that had to stay as found */
-    uint64_t kept_ranges;                      /* numbers lent for a range, likewise */
-    uint64_t records;                          /* through every function of a record */
-    uint64_t refusals[12];                     /* by number; 0 where a record passes */
-    uint64_t kinds[LPMAG_UNDEFINED + 1];       /* of whole packets */
-    uint64_t ranges[SECOND_NO_SUCH_PLACE + 1]; /* answered for samples */
+    uint64_t calls[FUNCTIONS];                /* pairs of calls */
+    uint64_t kept_rooms;                      /* rooms that had to stay as found */
+    uint64_t kept_ranges;                     /* numbers lent for a range, likewise */
+    uint64_t records;                         /* through every function of a record */
+    uint64_t refusals[12];                    /* by number; 0 where a record passes */
+    uint64_t kinds[LPMAG_UNDEFINED + 1];      /* of whole packets */
+    uint64_t words[14];                       /* given, by number of the refusal; 0 for any other */
+    uint64_t words_not_given;                 /* the room being too small */
+    uint64_t ranges[LPMAG_NO_SUCH_PLACE + 1]; /* answered for samples */
 
     /* And of the electrons. */
-    uint64_t answers[FUNCTIONS][LPMAG_TOO_LARGE + 1]; /* of each function but the angle */
-    uint64_t laid[36];                                /* frames, by type */
-    uint64_t accumulations;                           /* laid whole */
-    uint64_t cells_given[2988];                       /* raw, by cell */
+    uint64_t answers[FUNCTIONS][LPMAG_NO_SUCH_BIN + 1]; /* of each function but the angle */
+    uint64_t laid[36];                                  /* frames, by type */
+    uint64_t accumulations;                             /* laid whole */
+    uint64_t cells_given[2988];                         /* raw, by cell */
     uint64_t cells_absent[2988];
     uint64_t samples_plain[15]; /* by bin */
     uint64_t samples_scaled[15];
@@ -108,18 +138,29 @@ struct drive {
 
     /* And of the reader. */
     uint64_t steps[14];                    /* by answer */
+    uint64_t feeds[2];                     /* by answer */
     uint64_t finishes[2];                  /* by answer */
-    uint64_t fresh[2];                     /* calls of answer 0 with the fresh state: step, finish */
+    uint64_t fresh[CALLS];                 /* calls of answer 0 with the fresh state */
     uint64_t fates[LPMAG_NEITHER + 1];     /* of accepted frames */
     uint64_t others_counted[2];            /* other frames with no accumulation open, and with one */
-    uint64_t closed[2][2][2];              /* by finish, a major frame, an accumulation */
+    uint64_t closed[CALLS][2][2];          /* by calls of answer 0: a major frame, an accumulation */
     uint64_t edges[EDGES][36][36];         /* frames at the edges, by last type and type above it */
     uint64_t not_above[36][36];            /* frames of a type not above the last, likewise */
     uint64_t past_others[LPMAG_JOINS + 1]; /* frames after other frames, by what became of them */
     uint64_t taken[36][16];                /* real-time frames, by type and slot */
-    uint64_t broken[CLAUSES];              /* states that break one clause alone */
+    uint64_t broken[CALLS][CLAUSES];       /* states that break one clause alone */
     uint64_t passing;                      /* states made at random that break none */
-    uint64_t wrong_sizes[2][SIZED];        /* alone, of step and of finish */
+    uint64_t wrong_sizes[CALLS][SIZED];    /* alone */
+    uint64_t flags[CALLS][2][256];         /* flag bytes in a fresh state, and in another */
+    uint64_t spares[CALLS][SPARE_BITS];    /* bits of spare fields, alone in a good state */
+    uint64_t structs[CALLS];               /* told, with all fields known and different */
+
+    /* And of what is fed. */
+    uint64_t fed[14];               /* feeds of answer 0 that took a record, by what it was answered */
+    uint64_t fed_taken[GIVEN];      /* feeds of answer 0, by the records taken */
+    uint64_t fed_left[2][GIVEN];    /* by whether a part of a record is left, and by the records left */
+    uint64_t fed_broken[2][GIVEN];  /* refused for a size or for the state, by the records given */
+    uint64_t fed_lengths[3 * 472 + 2]; /* given, up to three records and a byte */
 
     /* And of streams sent in order. */
     uint64_t sent_kept;           /* records, real-time or other */
@@ -136,7 +177,7 @@ struct drive {
 void begin(struct drive *drive, const char *phase);
 
 /* One question to both implementations. */
-#define QUESTION_ALSO 6
+#define QUESTION_ALSO 4
 struct question {
     enum function function;
     const uint8_t *bytes; /* the record, packet, MAG bytes, science, cells or any bytes */
@@ -160,7 +201,7 @@ void expect_answer(struct drive *drive, const struct question *question, uint64_
 void expect_range(struct drive *drive, const struct question *question, const struct ranges *ranges,
                   uint64_t low, uint64_t high);
 void expect_bytes(struct drive *drive, const struct question *question, const char *what,
-                  const uint8_t *found, const uint8_t *expected, size_t length);
+                  const void *found, const void *expected, size_t length);
 
 /* The subjects. */
 void drive_words(struct drive *drive);
@@ -170,14 +211,17 @@ void drive_cells(struct drive *drive);
 void drive_counts(struct drive *drive);
 void drive_questions(struct drive *drive);
 void drive_reader(struct drive *drive);
+void drive_feed(struct drive *drive);
 void drive_sent(struct drive *drive);
 void drive_states(struct drive *drive);
+void drive_structs(struct drive *drive);
 void drive_refusals(struct drive *drive);
 void drive_major(struct drive *drive);
+void drive_layer(struct drive *drive);
 
-/* The room of lpmag_fields, from the content a record was made of. */
+/* The fields of a record, from the content it was made of. */
 struct content;
-void fields_of(const struct content *content, uint8_t *fields);
+struct lpmag_fields fields_of(const struct content *content);
 
 /* The range and the samples of MAG bytes, with a room of so many numbers. */
 void compare_mag(struct drive *drive, const uint8_t *mag, size_t length, size_t room_numbers);

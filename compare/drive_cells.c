@@ -175,6 +175,23 @@ static void compare_cells_of_sizes(struct drive *drive)
         }
 }
 
+/* ---- the samples of a bin --------------------------------------------- */
+
+static void compare_bins(struct drive *drive)
+{
+    static size_t bins[MOST_NUMBERS];
+    size_t count = make_numbers(300, bins);
+    begin(drive, "how many samples every bin has, past the last and at huge ones");
+    for (size_t i = 0; i < count; i++) {
+        struct question question = {BIN_SAMPLES, NULL, 0, {{"bin", bins[i]}}};
+        uint8_t first = lpmag_bin_samples(bins[i]);
+        same_answer(drive, &question, first, second_bin_samples(bins[i]));
+        expect_answer(drive, &question, first,
+                      bins[i] < BINS ? layout()->samples[bins[i]] : LPMAG_NO_SUCH_BIN);
+        drive->answers[BIN_SAMPLES][first]++;
+    }
+}
+
 void drive_cells(struct drive *drive)
 {
     if (!second_format_whole())
@@ -186,4 +203,5 @@ void drive_cells(struct drive *drive)
         compare_accumulation(drive);
     compare_cells(drive);
     compare_cells_of_sizes(drive);
+    compare_bins(drive);
 }

@@ -16,8 +16,8 @@ void compare_mag(struct drive *drive, const uint8_t *mag, size_t length, size_t 
     uint8_t second = second_samples(mag, length, room_of_numbers(&rooms, &rooms.second), room_numbers);
     question = (struct question){SAMPLES, mag, length, {{"room", room_numbers}}};
     same_answer(drive, &question, first, second);
-    expect_answer(drive, &question, first, room_numbers == LPMAG_SAMPLES ? range : SECOND_NO_SUCH_PLACE);
-    same_rooms(drive, &question, &rooms, first == SECOND_NO_SUCH_PLACE);
+    expect_answer(drive, &question, first, room_numbers == LPMAG_SAMPLES ? range : LPMAG_NO_SUCH_PLACE);
+    same_rooms(drive, &question, &rooms, first == LPMAG_NO_SUCH_PLACE);
     drive->ranges[first]++;
 }
 
@@ -141,7 +141,7 @@ static uint32_t compare_field(struct drive *drive, int16_t sample, uint8_t range
         wrong = "both change a number that has to stay as found";
     else if (first_answer == 0 && !exact_field(first.bits[1], sample, range))
         wrong = "both agree, but 512 times the field isn't the sample times 4 to the range";
-    else if (first_answer != (range > 7 || sample < -2048 || sample > 2047 ? SECOND_NO_SUCH_PLACE : 0))
+    else if (first_answer != (range > 7 || sample < -2048 || sample > 2047 ? LPMAG_NO_SUCH_PLACE : 0))
         wrong = "both agree, but the answer has to be another";
     if (wrong != NULL)
         report_field(sample, range, wrong, &found, &first, &second);

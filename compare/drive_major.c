@@ -10,66 +10,67 @@
 
 /* What is asked about: anything may stand in it. */
 struct asked {
-    uint8_t made[128];
-    size_t length;
+    struct lpmag_major made;
     int16_t made_samples[2 * LPMAG_FRAME];
     size_t count;
-    const uint8_t *major;   /* lent for it */
-    const int16_t *samples; /* likewise */
-    struct major numbers;   /* what the bytes say */
+    const struct lpmag_major *major; /* lent for it */
+    const int16_t *samples;          /* likewise */
 };
 
 static void lend_asked(struct random *random, struct asked *asked)
 {
-    asked->numbers = get_major(asked->made);
-    asked->major = lend_bytes(random, asked->made, asked->length);
+    asked->major = lend_major(random, &asked->made);
     asked->samples = lend_numbers(random, asked->made_samples, asked->count);
 }
 
 /* After questions, the last of that function: what was lent has to be as made. */
 static void expect_unchanged(struct drive *drive, enum function function, const struct asked *asked)
 {
-    struct question question = {function, asked->major, asked->length, {{NULL, 0}}};
-    if (asked->length > 0)
-        expect_bytes(drive, &question, "the major frame was changed", asked->major, asked->made,
-                     asked->length);
+    struct question question = {function, NULL, 0, {{NULL, 0}}};
+    expect_bytes(drive, &question, "the major frame was changed", asked->major, &asked->made,
+                 sizeof asked->made);
     if (asked->count > 0)
-        expect_bytes(drive, &question, "the samples were changed", (const uint8_t *)asked->samples,
-                     (const uint8_t *)asked->made_samples, asked->count * sizeof(int16_t));
+        expect_bytes(drive, &question, "the samples were changed", asked->samples, asked->made_samples,
+                     asked->count * sizeof(int16_t));
+}
+
+static const uint8_t *bytes_asked(const struct asked *asked)
+{
+    return (const uint8_t *)asked->major;
 }
 
 static void compare_word(struct drive *drive, const struct asked *asked, size_t slot)
 {
-    struct question question = {MAJOR_WORD, asked->major, asked->length, {{"slot", slot}}};
+    struct question question = {MAJOR_WORD, bytes_asked(asked), sizeof asked->made, {{"slot", slot}}};
     struct rooms rooms;
     rooms_make(&rooms, &drive->random, sizeof(uint16_t));
     uint16_t *first_word = (uint16_t *)room_of_numbers(&rooms, &rooms.first);
     uint16_t *second_word = (uint16_t *)room_of_numbers(&rooms, &rooms.second);
-    uint8_t first = lpmag_major_word(asked->major, asked->length, slot, first_word);
-    uint8_t second = second_major_word(asked->major, asked->length, slot, second_word);
+    uint8_t first = lpmag_major_word(asked->major, slot, first_word);
+    uint8_t second = second_major_word(asked->major, slot, second_word);
     same_answer(drive, &question, first, second);
-    same_rooms(drive, &question, &rooms, first != 0);
+    same_rooms(drive, &question, &rooms, first != LPMAG_OK);
 
-    uint8_t expected = 0;
-    if (asked->length != LPMAG_MAJOR || slot > 15)
+    uint8_t expected = LPMAG_OK;
+    if (slot > 15)
         expected = LPMAG_NO_SUCH_PLACE;
-    else if ((asked->numbers.slots >> slot & 1) == 0)
+    else if ((asked->made.slots >> slot & 1) == 0)
         expected = LPMAG_ABSENT;
     expect_answer(drive, &question, first, expected);
-    if (first == 0)
-        expect_answer(drive, &question, *first_word, asked->numbers.words[slot]);
+    if (first == LPMAG_OK)
+        expect_answer(drive, &question, *first_word, asked->made.words[slot]);
     drive->answers[MAJOR_WORD][first]++;
 }
 
 /* No such place, then absent. */
 static uint8_t expected_sample(const struct asked *asked, size_t slot, size_t number, bool field)
 {
-    if (asked->length != LPMAG_MAJOR || asked->count != LPMAG_FRAME || slot > 15 || number > 53)
+    if (asked->count != LPMAG_FRAME || slot > 15 || number > 53)
         return LPMAG_NO_SUCH_PLACE;
     int16_t sample = asked->made_samples[54 * slot + number];
-    if (sample < -2048 || sample > 2047 || (field && asked->numbers.ranges[slot] > 7))
+    if (sample < -2048 || sample > 2047 || (field && asked->made.ranges[slot] > 7))
         return LPMAG_NO_SUCH_PLACE;
-    return asked->numbers.mag >> slot & 1 ? 0 : LPMAG_ABSENT;
+    return asked->made.mag_slots >> slot & 1 ? LPMAG_OK : LPMAG_ABSENT;
 }
 
 static struct question question_of(enum function function, const struct asked *asked, size_t slot,
@@ -78,8 +79,8 @@ static struct question question_of(enum function function, const struct asked *a
     bool stored = asked->count == LPMAG_FRAME && slot < SLOTS && number < LPMAG_SAMPLES;
     int sample = stored ? asked->made_samples[LPMAG_SAMPLES * slot + number] : 0;
     return (struct question){function,
-                             asked->major,
-                             asked->length,
+                             bytes_asked(asked),
+                             sizeof asked->made,
                              {{"samples", asked->count},
                               {"slot", slot},
                               {"number", number},
@@ -93,14 +94,14 @@ static void compare_sample(struct drive *drive, const struct asked *asked, size_
     rooms_make(&rooms, &drive->random, sizeof(int16_t));
     int16_t *first_sample = room_of_numbers(&rooms, &rooms.first);
     int16_t *second_sample = room_of_numbers(&rooms, &rooms.second);
-    uint8_t first = lpmag_major_sample(asked->major, asked->length, asked->samples, asked->count, slot,
-                                       number, first_sample);
-    uint8_t second = second_major_sample(asked->major, asked->length, asked->samples, asked->count, slot,
-                                         number, second_sample);
+    uint8_t first =
+        lpmag_major_sample(asked->major, asked->samples, asked->count, slot, number, first_sample);
+    uint8_t second =
+        second_major_sample(asked->major, asked->samples, asked->count, slot, number, second_sample);
     same_answer(drive, &question, first, second);
-    same_rooms(drive, &question, &rooms, first != 0);
+    same_rooms(drive, &question, &rooms, first != LPMAG_OK);
     expect_answer(drive, &question, first, expected_sample(asked, slot, number, false));
-    if (first == 0)
+    if (first == LPMAG_OK)
         expect_answer(drive, &question, (uint64_t)(*first_sample + 32768),
                       (uint64_t)(asked->made_samples[54 * slot + number] + 32768));
     drive->answers[MAJOR_SAMPLE][first]++;
@@ -114,18 +115,17 @@ static void compare_major_field(struct drive *drive, const struct asked *asked, 
     rooms_make(&rooms, &drive->random, sizeof(float));
     float *first_field = room_of_fields(&rooms, &rooms.first);
     float *second_field_room = room_of_fields(&rooms, &rooms.second);
-    uint8_t first = lpmag_major_field(asked->major, asked->length, asked->samples, asked->count, slot, number,
-                                      first_field);
-    uint8_t second = second_major_field(asked->major, asked->length, asked->samples, asked->count, slot,
-                                        number, second_field_room);
+    uint8_t first = lpmag_major_field(asked->major, asked->samples, asked->count, slot, number, first_field);
+    uint8_t second =
+        second_major_field(asked->major, asked->samples, asked->count, slot, number, second_field_room);
     same_answer(drive, &question, first, second);
-    same_rooms(drive, &question, &rooms, first != 0);
+    same_rooms(drive, &question, &rooms, first != LPMAG_OK);
     expect_answer(drive, &question, first, expected_sample(asked, slot, number, true));
-    if (first == 0) {
+    if (first == LPMAG_OK) {
         float field;
-        lpmag_field(asked->made_samples[54 * slot + number], asked->numbers.ranges[slot], &field);
+        lpmag_field(asked->made_samples[54 * slot + number], asked->made.ranges[slot], &field);
         expect_bytes(drive, &question, "the field isn't that of the sample and the range",
-                     (const uint8_t *)first_field, (const uint8_t *)&field, sizeof field);
+                     first_field, &field, sizeof field);
     }
     drive->answers[MAJOR_FIELD][first]++;
 }
@@ -148,12 +148,11 @@ static int16_t any_sample(struct random *random)
 
 static void make_asked(struct random *random, struct asked *asked)
 {
-    asked->length = LPMAG_MAJOR;
     asked->count = LPMAG_FRAME;
-    random_fill(random, asked->made, sizeof asked->made);
+    random_fill(random, (uint8_t *)&asked->made, sizeof asked->made);
     for (size_t slot = 0; slot < SLOTS; slot++)
         if (!random_once_in(random, 8))
-            asked->made[12 + slot] %= 8;
+            asked->made.ranges[slot] %= 8;
     for (size_t i = 0; i < 2 * LPMAG_FRAME; i++)
         asked->made_samples[i] = any_sample(random);
 }
@@ -161,10 +160,8 @@ static void make_asked(struct random *random, struct asked *asked)
 /* The slots held, and those held with MAG. */
 static void set_marks(struct asked *asked, unsigned slots, unsigned mag)
 {
-    asked->made[8] = (uint8_t)(slots >> 8);
-    asked->made[9] = (uint8_t)slots;
-    asked->made[10] = (uint8_t)(mag >> 8);
-    asked->made[11] = (uint8_t)mag;
+    asked->made.slots = (uint16_t)slots;
+    asked->made.mag_slots = (uint16_t)mag;
 }
 
 static void compare_slot(struct drive *drive, const struct asked *asked, size_t slot, const size_t *numbers,
@@ -229,7 +226,7 @@ static void compare_ranges(struct drive *drive)
     for (unsigned range = 0; range < 256; range++)
         for (size_t slot = 0; slot < SLOTS; slot++) {
             make_asked(&drive->random, &asked);
-            asked.made[12 + slot] = (uint8_t)range;
+            asked.made.ranges[slot] = (uint8_t)range;
             for (size_t i = 0; i < sizeof ends / sizeof ends[0]; i++)
                 asked.made_samples[54 * slot + (5 * i + range) % 54] = ends[i];
             lend_asked(&drive->random, &asked);
@@ -243,22 +240,37 @@ static void compare_ranges(struct drive *drive)
 
 static void compare_sizes(struct drive *drive)
 {
-    static const size_t lengths[] = {0, 1, 44, 59, 60, 61, 78, 102, 128};
     static const size_t counts[] = {0, 1, 54, 432, 863, 864, 865, 1728};
     static const size_t numbers[] = {0, 7, 53, 54};
     static struct asked asked;
-    begin(drive, "major frames and samples of many sizes");
-    for (size_t i = 0; i < sizeof lengths / sizeof lengths[0]; i++)
-        for (size_t j = 0; j < sizeof counts / sizeof counts[0]; j++)
-            for (unsigned k = 0; k < 20; k++) {
-                make_asked(&drive->random, &asked);
-                asked.length = lengths[i];
-                asked.count = counts[j];
-                lend_asked(&drive->random, &asked);
-                for (size_t slot = 0; slot <= SLOTS; slot++)
-                    compare_slot(drive, &asked, slot, numbers, sizeof numbers / sizeof numbers[0]);
-                expect_unchanged(drive, MAJOR_FIELD, &asked);
-            }
+    begin(drive, "major frames with samples of many sizes");
+    for (size_t i = 0; i < sizeof counts / sizeof counts[0]; i++)
+        for (unsigned j = 0; j < 100; j++) {
+            make_asked(&drive->random, &asked);
+            asked.count = counts[i];
+            lend_asked(&drive->random, &asked);
+            for (size_t slot = 0; slot <= SLOTS; slot++)
+                compare_slot(drive, &asked, slot, numbers, sizeof numbers / sizeof numbers[0]);
+            expect_unchanged(drive, MAJOR_FIELD, &asked);
+        }
+}
+
+/* The spare field isn't looked at: with any bit of it, and with none. */
+static void compare_spare(struct drive *drive)
+{
+    static const size_t numbers[] = {0, 53};
+    static struct asked asked;
+    begin(drive, "major frames with every bit of the spare field");
+    for (unsigned i = 0; i < 10; i++) {
+        make_asked(&drive->random, &asked);
+        for (unsigned bit = 0; bit <= 32; bit++) {
+            asked.made.spare32 = bit < 32 ? 1u << bit : 0;
+            lend_asked(&drive->random, &asked);
+            for (size_t slot = 0; slot <= SLOTS; slot++)
+                compare_slot(drive, &asked, slot, numbers, sizeof numbers / sizeof numbers[0]);
+            expect_unchanged(drive, MAJOR_FIELD, &asked);
+        }
+    }
 }
 
 void drive_major(struct drive *drive)
@@ -267,4 +279,5 @@ void drive_major(struct drive *drive)
     compare_marks(drive);
     compare_ranges(drive);
     compare_sizes(drive);
+    compare_spare(drive);
 }

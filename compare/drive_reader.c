@@ -3,10 +3,9 @@
 #include "reader.h"
 
 #include "electrons.h"
+#include "streams.h"
 
-#include <system.h>
-
-static const struct state fresh;
+static const struct lpmag_state fresh;
 
 /* ---- the printed examples --------------------------------------------- */
 
@@ -15,8 +14,8 @@ static uint8_t step_with(struct drive *drive, struct reader *reader, uint64_t co
 {
     struct input input;
     input_make(&drive->random, &input, count, type);
-    compare_step(drive, reader, &input, 0);
-    return reader_report(reader)[FATE_AT];
+    compare_step(drive, reader, &input, LPMAG_OK);
+    return reader_report(reader).gap;
 }
 
 static void expect_fate(struct drive *drive, uint64_t count, uint8_t type, uint8_t fate, uint8_t expected)
@@ -50,16 +49,16 @@ static void compare_joining_examples(struct drive *drive)
 }
 
 /* The numbers of a line of the listing. */
-static void expect_closed(struct drive *drive, const uint8_t *closed, uint64_t major, uint64_t first)
+static void expect_closed(struct drive *drive, const struct lpmag_closed *closed, uint64_t major,
+                          uint64_t first)
 {
     struct question question = {STEP, NULL, 0, {{NULL, 0}}};
-    struct major frame = get_major(closed + MAJOR_AT);
-    expect_answer(drive, &question, closed[MAJOR_CLOSED] & closed[CELLS_CLOSED], 1);
-    expect_answer(drive, &question, 16 * frame.number, major);
-    expect_answer(drive, &question, ones(frame.slots), 1);
-    expect_answer(drive, &question, 54 * ones(frame.mag), 54);
-    expect_answer(drive, &question, get_number(closed + FIRST_AT), first);
-    expect_answer(drive, &question, 83 * ones(get_number(closed + HELD_AT)), 83);
+    expect_answer(drive, &question, closed->major_closed & closed->accumulation_closed, 1);
+    expect_answer(drive, &question, 16 * closed->major.number, major);
+    expect_answer(drive, &question, ones(closed->major.slots), 1);
+    expect_answer(drive, &question, 54 * ones(closed->major.mag_slots), 54);
+    expect_answer(drive, &question, closed->accumulation_first, first);
+    expect_answer(drive, &question, 83 * ones(closed->accumulation_held), 83);
 }
 
 /* 01, "The listing, whole": counts 32 and 48, both type 0. */
@@ -70,9 +69,11 @@ static void compare_listing_example(struct drive *drive)
     reader_make(&drive->random, &reader, &fresh);
     step_with(drive, &reader, 32, 0);
     step_with(drive, &reader, 48, 0);
-    expect_closed(drive, reader_report(&reader) + CLOSED_AT, 32, 32);
-    compare_finish(drive, &reader, 0);
-    expect_closed(drive, reader_report(&reader), 48, 48);
+    struct lpmag_closed closed = reader_report(&reader).closed;
+    expect_closed(drive, &closed, 32, 32);
+    compare_finish(drive, &reader, LPMAG_OK);
+    closed = reader_closed(&reader);
+    expect_closed(drive, &closed, 48, 48);
 }
 
 /* ---- the edges of the joining rule ------------------------------------ */
@@ -98,7 +99,7 @@ static void compare_gap(struct drive *drive, uint8_t t, uint8_t u, uint32_t g, u
         }
     }
     expect_fate(drive, count + 1, u, step_with(drive, &reader, count + 1, u), expected);
-    compare_finish(drive, &reader, 0);
+    compare_finish(drive, &reader, LPMAG_OK);
 }
 
 static void compare_gaps(struct drive *drive)
@@ -127,63 +128,18 @@ static void compare_gaps(struct drive *drive)
 
 /* ---- streams of anything ---------------------------------------------- */
 
-/* How far the next count is ahead: mostly by one, often near what tears an
- * accumulation, and now and then far. */
-static uint64_t ahead(struct random *random)
-{
-    switch (random_below(random, 16)) {
-    case 0:
-        return random_between(random, 30, 40);
-    case 1:
-        return random_between(random, 60, 75);
-    case 2:
-        return random_between(random, 1, 300);
-    case 3:
-        return random_between(random, 2, 5);
-    default:
-        return 1;
-    }
-}
-
-/* Mostly a type above the last. */
-static uint8_t any_type(struct random *random, uint8_t last)
-{
-    switch (random_below(random, 8)) {
-    case 0:
-    case 1:
-        return other_type(random);
-    case 2:
-        return (uint8_t)random_below(random, TYPES);
-    default:
-        return (uint8_t)((last + (random_once_in(random, 4) ? random_below(random, 6) : 1)) % TYPES);
-    }
-}
-
-/* Where a stream starts, so that it stays below 2^24 or runs against it. */
-static uint64_t first_count(struct random *random)
-{
-    switch (random_below(random, 4)) {
-    case 0:
-        return 0;
-    case 1:
-        return COUNTS - 1 - random_below(random, 3000);
-    default:
-        return random_below(random, (uint32_t)COUNTS);
-    }
-}
-
 static void compare_stream(struct drive *drive)
 {
     static struct reader reader;
     struct random *random = &drive->random;
     struct input input;
-    uint64_t count = first_count(random);
+    uint64_t count = stream_first(random);
     reader_make(random, &reader, &fresh);
     if (random_once_in(random, 8))
-        compare_finish(drive, &reader, 0);
+        compare_finish(drive, &reader, LPMAG_OK);
     for (unsigned i = 0; i < 400 && count < COUNTS; i++) {
-        uint8_t type = any_type(random, reader.state.accumulation.type);
-        if (reader.state.accepted && random_once_in(random, 16)) {
+        uint8_t type = stream_type(random, reader.state.accumulation.last_type);
+        if (reader.state.any && random_once_in(random, 16)) {
             uint32_t last = (uint32_t)reader.state.last;
             uint32_t before = random_once_in(random, 2) ? last : random_between(random, 0, last);
             input_make(random, &input, before, type);
@@ -197,16 +153,16 @@ static void compare_stream(struct drive *drive)
             compare_step(drive, &reader, &input, (uint8_t)rule);
             continue;
         }
-        compare_step(drive, &reader, &input, 0);
-        count += ahead(random);
+        compare_step(drive, &reader, &input, LPMAG_OK);
+        count += stream_ahead(random);
         if (random_once_in(random, 100)) {
-            compare_finish(drive, &reader, 0);
+            compare_finish(drive, &reader, LPMAG_OK);
             if (random_once_in(random, 4))
-                compare_finish(drive, &reader, 0);
+                compare_finish(drive, &reader, LPMAG_OK);
         }
     }
-    compare_finish(drive, &reader, 0);
-    compare_finish(drive, &reader, 0);
+    compare_finish(drive, &reader, LPMAG_OK);
+    compare_finish(drive, &reader, LPMAG_OK);
 }
 
 void drive_reader(struct drive *drive)
@@ -215,6 +171,6 @@ void drive_reader(struct drive *drive)
     compare_listing_example(drive);
     compare_gaps(drive);
     begin(drive, "streams of any types, with counts left out, repeated and falling, and finish anywhere");
-    for (unsigned i = 0; i < 600; i++)
+    for (unsigned i = 0; i < 500; i++)
         compare_stream(drive);
 }

@@ -29,63 +29,49 @@ static size_t wrong_size(struct random *random, size_t right)
     }
 }
 
-void fields_of(const struct content *content, uint8_t *fields)
+static bool finite(uint32_t bits)
+{
+    return (bits & 0x7F800000) != 0x7F800000;
+}
+
+struct lpmag_fields fields_of(const struct content *content)
 {
     uint8_t type = content->code & 63;
-    bool level_finite = (content->level & 0x7F800000) != 0x7F800000;
-    bool quality_finite = (content->quality & 0x7F800000) != 0x7F800000;
-    const uint8_t made[LPMAG_FIELDS] = {
-        0,
-        (uint8_t)(content->count >> 16),
-        (uint8_t)(content->count >> 8),
-        (uint8_t)content->count,
-        (uint8_t)(content->day >> 8),
-        (uint8_t)content->day,
-        (uint8_t)(content->millisecond >> 24),
-        (uint8_t)(content->millisecond >> 16),
-        (uint8_t)(content->millisecond >> 8),
-        (uint8_t)content->millisecond,
-        content->flags[0],
-        content->flags[1],
-        content->flags[2],
-        content->code,
-        type,
-        type < 36 ? type : LPMAG_OTHER,
-        (uint8_t)(content->subcom >> 8),
-        (uint8_t)content->subcom,
-        level_finite,
-        (uint8_t)(content->level >> 24),
-        (uint8_t)(content->level >> 16),
-        (uint8_t)(content->level >> 8),
-        (uint8_t)content->level,
-        quality_finite,
-        (uint8_t)(content->quality >> 24),
-        (uint8_t)(content->quality >> 16),
-        (uint8_t)(content->quality >> 8),
-        (uint8_t)content->quality,
+    return (struct lpmag_fields){
+        .count = content->count,
+        .millisecond = content->millisecond,
+        .level = content->level,
+        .quality = content->quality,
+        .day = content->day,
+        .subcom = content->subcom,
+        .first_flag = content->flags[0],
+        .second_flag = content->flags[1],
+        .third_flag = content->flags[2],
+        .frame_code = content->code,
+        .frame_type = type,
+        .kind = type < 36 ? type : LPMAG_OTHER,
+        .level_finite = finite(content->level),
+        .quality_finite = finite(content->quality),
     };
-    memcpy(fields, made, sizeof made);
 }
 
 /* `refusal` is the answer of check. */
-static void compare_fields(struct drive *drive, const uint8_t *record, size_t length, size_t room_length,
-                           uint8_t refusal, const struct content *content)
+static void compare_fields(struct drive *drive, const uint8_t *record, size_t length, uint8_t refusal,
+                           const struct content *content)
 {
-    struct question question = {FIELDS, record, length, {{"room", room_length}}};
+    struct question question = {FIELDS, record, length, {{NULL, 0}}};
     struct rooms rooms;
-    rooms_make(&rooms, &drive->random, room_length);
-    uint8_t first = lpmag_fields(record, length, room_of_bytes(&rooms, &rooms.first), room_length);
-    uint8_t second = second_fields(record, length, room_of_bytes(&rooms, &rooms.second), room_length);
+    rooms_make(&rooms, &drive->random, sizeof(struct lpmag_fields));
+    uint8_t first = lpmag_fields(room_of_struct(&rooms, &rooms.first), record, length);
+    uint8_t second = second_fields(room_of_struct(&rooms, &rooms.second), record, length);
     same_answer(drive, &question, first, second);
-    expect_answer(drive, &question, first, room_length == LPMAG_FIELDS ? refusal : 1);
-    same_rooms(drive, &question, &rooms, first != 0);
-    drive->refusals[1] += first == 1;
+    expect_answer(drive, &question, first, refusal);
+    same_rooms(drive, &question, &rooms, first != LPMAG_OK);
 
-    if (content != NULL && first == 0) {
-        uint8_t fields[LPMAG_FIELDS];
-        fields_of(content, fields);
-        expect_bytes(drive, &question, "the room isn't what the record was made of",
-                     room_of_bytes(&rooms, &rooms.first), fields, sizeof fields);
+    if (content != NULL && first == LPMAG_OK) {
+        struct lpmag_fields fields = fields_of(content);
+        expect_bytes(drive, &question, "the fields aren't what the record was made of",
+                     room_of_struct(&rooms, &rooms.first), &fields, sizeof fields);
     }
 }
 
@@ -99,10 +85,10 @@ static void compare_packet(struct drive *drive, const uint8_t *record, size_t le
     uint8_t second = second_packet(record, length, room_of_bytes(&rooms, &rooms.second), room_length);
     same_answer(drive, &question, first, second);
     expect_answer(drive, &question, first, room_length == LPMAG_PACKET ? refusal : 1);
-    same_rooms(drive, &question, &rooms, first != 0);
+    same_rooms(drive, &question, &rooms, first != LPMAG_OK);
     drive->refusals[1] += first == 1;
 
-    if (first == 0)
+    if (first == LPMAG_OK)
         expect_bytes(drive, &question, "the room isn't the packet's place in the record",
                      room_of_bytes(&rooms, &rooms.first), record + LPMAG_PACKET_AT, LPMAG_PACKET);
 }
@@ -133,8 +119,7 @@ static uint8_t compare_record(struct drive *drive, const uint8_t *made, size_t l
     drive->records++;
     drive->refusals[refusal]++;
 
-    compare_fields(drive, record, length, LPMAG_FIELDS, refusal, content);
-    compare_fields(drive, record, length, wrong_size(&drive->random, LPMAG_FIELDS), refusal, NULL);
+    compare_fields(drive, record, length, refusal, content);
     compare_packet(drive, record, length, LPMAG_PACKET, refusal);
     compare_packet(drive, record, length, wrong_size(&drive->random, LPMAG_PACKET), refusal);
 
@@ -273,7 +258,7 @@ static void compare_every_value(struct drive *drive, const char *phase, size_t a
         make_good(drive, record);
         for (size_t i = 0; i < size; i++)
             record[at + i] = (uint8_t)(value >> 8 * (size - 1 - i));
-        passes += compare_record(drive, record, sizeof record, ANY, NULL) == 0;
+        passes += compare_record(drive, record, sizeof record, ANY, NULL) == LPMAG_OK;
     }
     if (passes != passing) {
         print_text(phase);
@@ -329,6 +314,64 @@ static void compare_kinds(struct drive *drive)
         }
 }
 
+/* ---- the words of a refusal ------------------------------------------- */
+
+/* 01, "Numbers a refused record gets", the second column; none before the first. */
+static const char *expected_words(unsigned number)
+{
+    static const char *const words[] = {
+        [0] = "",
+        [1] = "a lent buffer isn't of its size, or the state breaks the list below",
+        [2] = "length isn't 472",
+        [3] = "sync differs",
+        [4] = "version or spacecraft differs",
+        [5] = "rate differs",
+        [6] = "byte 9 isn't 0",
+        [7] = "day outside 1-366",
+        [8] = "millisecond above 86,399,999",
+        [9] = "a spare status bit is set",
+        [10] = "a flag is 00 or 11",
+        [11] = "type is 58-61",
+        [12] = "something was accepted before and the count isn't above the last accepted",
+        [13] = "a cell of this type is already held in the accumulation it joins (old guard)",
+    };
+    return number <= 13 ? words[number] : words[0];
+}
+
+static void compare_words(struct drive *drive, uint8_t number, size_t room_length)
+{
+    struct question question = {REFUSAL_WORDS, NULL, 0, {{"number", number}, {"room", room_length}}};
+    struct rooms rooms;
+    bool fits = room_length >= LPMAG_WORDS;
+    rooms_make(&rooms, &drive->random, room_length);
+    size_t first = lpmag_refusal_words(number, room_of_bytes(&rooms, &rooms.first), room_length);
+    size_t second = second_refusal_words(number, room_of_bytes(&rooms, &rooms.second), room_length);
+    same_answer(drive, &question, first, second);
+    same_rooms(drive, &question, &rooms, !fits);
+
+    size_t length = 0;
+    uint8_t *expected = room_of_bytes(&rooms, &rooms.found);
+    for (const char *words = expected_words(number); fits && words[length] != '\0'; length++)
+        expected[length] = (uint8_t)words[length];
+    expect_answer(drive, &question, first, length);
+    if (fits) {
+        expected[length] = 0;
+        expect_bytes(drive, &question, "the room isn't 01's words, a 0 and what was found",
+                     room_of_bytes(&rooms, &rooms.first), expected, room_length);
+        drive->words[number <= 13 ? number : 0]++;
+    } else {
+        drive->words_not_given++;
+    }
+}
+
+static void compare_every_word(struct drive *drive)
+{
+    begin(drive, "the words of every refusal and of every other number, in rooms of many sizes");
+    for (unsigned number = 0; number < 256; number++)
+        for (size_t room_length = 0; room_length <= 200; room_length++)
+            compare_words(drive, (uint8_t)number, room_length);
+}
+
 void drive_record(struct drive *drive)
 {
     compare_good(drive);
@@ -340,4 +383,5 @@ void drive_record(struct drive *drive)
     compare_every_value_looked_at(drive);
     compare_milliseconds(drive);
     compare_kinds(drive);
+    compare_every_word(drive);
 }

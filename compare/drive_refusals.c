@@ -7,9 +7,9 @@
 #include <system.h>
 
 /* A state that a record can follow: it isn't at the last count. */
-static struct state any_state_with_a_next(struct random *random)
+static struct lpmag_state any_state_with_a_next(struct random *random)
 {
-    struct state state;
+    struct lpmag_state state;
     do
         state = any_state(random, random_once_in(random, 2), random_once_in(random, 2));
     while (state.last == COUNTS - 1);
@@ -19,10 +19,7 @@ static struct state any_state_with_a_next(struct random *random)
 /* ---- sizes ------------------------------------------------------------ */
 
 /* Elements: bytes, or numbers of the samples. */
-static const size_t right_sizes[2][SIZED] = {
-    {LPMAG_STATE, LPMAG_CELLS, LPMAG_CELLS, LPMAG_FRAME, LPMAG_FRAME, LPMAG_REPORT},
-    {LPMAG_STATE, LPMAG_CELLS, LPMAG_CELLS, LPMAG_FRAME, LPMAG_FRAME, LPMAG_CLOSED},
-};
+static const size_t right_sizes[SIZED] = {LPMAG_CELLS, LPMAG_CELLS, LPMAG_FRAME, LPMAG_FRAME};
 
 enum { WRONG_SIZES = 10 };
 static size_t wrong_size(struct random *random, size_t right, unsigned form)
@@ -42,84 +39,58 @@ static size_t wrong_size(struct random *random, size_t right, unsigned form)
     return sizes[form];
 }
 
-static void set_size(struct random *random, struct reader *reader, enum sized room, size_t size)
-{
-    uint8_t bytes[LPMAG_STATE];
-    switch (room) {
-    case REPORT:
-        reader->report_length = reader->closed_length = size;
-        break;
-    case OPEN_SAMPLES:
-    case FINISHED_SAMPLES:
-        rooms_make(&reader->rooms[room], random, size * sizeof(int16_t));
-        break;
-    case STATE: /* what there is of it is right */
-        rooms_make(&reader->rooms[room], random, size);
-        put_state(&reader->state, bytes);
-        rooms_put(&reader->rooms[room], bytes, size < sizeof bytes ? size : sizeof bytes);
-        break;
-    default:
-        rooms_make(&reader->rooms[room], random, size);
-    }
-}
-
-/* With a good record, or one that is to be refused for another reason too. */
-static void compare_size(struct drive *drive, bool finish, enum sized room, unsigned form)
+/* With a good record, or one that is to be refused for another reason too; with no
+ * record, one and many. */
+static void compare_size(struct drive *drive, enum lent_room room, unsigned form)
 {
     static struct reader reader;
     struct random *random = &drive->random;
-    struct state state = any_state_with_a_next(random);
+    struct lpmag_state state = any_state_with_a_next(random);
     struct input input;
     reader_make(random, &reader, &state);
-    set_size(random, &reader, room, wrong_size(random, right_sizes[finish][room], form));
+    reader_resize(random, &reader, room, wrong_size(random, right_sizes[room], form));
     input_make(random, &input, state.last + 1, (uint8_t)random_below(random, TYPES));
-    if (finish) {
-        compare_finish(drive, &reader, 1);
-    } else {
-        compare_step(drive, &reader, &input, 1);
-        input_spoil(random, &input, random_between(random, GENERATE_FIRST_RULE, GENERATE_LAST_RULE));
-        compare_step(drive, &reader, &input, 1);
-    }
-    drive->wrong_sizes[finish][room]++;
+    compare_step(drive, &reader, &input, 1);
+    input_spoil(random, &input, random_between(random, GENERATE_FIRST_RULE, GENERATE_LAST_RULE));
+    compare_step(drive, &reader, &input, 1);
+    compare_feed_refused(drive, &reader);
+    compare_finish(drive, &reader, 1);
+    for (enum call call = 0; call < CALLS; call++)
+        drive->wrong_sizes[call][room]++;
 }
 
 static void compare_sizes(struct drive *drive)
 {
-    begin(drive, "the state, the report and each buffer of a wrong size");
-    for (enum sized room = 0; room < SIZED; room++)
+    begin(drive, "each buffer of a wrong size");
+    for (enum lent_room room = 0; room < SIZED; room++)
         for (unsigned form = 0; form < WRONG_SIZES; form++)
-            for (unsigned i = 0; i < 40; i++) {
-                compare_size(drive, false, room, form);
-                compare_size(drive, true, room, form);
-            }
+            for (unsigned i = 0; i < 40; i++)
+                compare_size(drive, room, form);
 }
 
-/* One has another's size, or the room for the report that of the other function. */
+/* One has another's size, or that of something else. */
 static void compare_sizes_exchanged(struct drive *drive)
 {
+    static const size_t sizes[] = {
+        LPMAG_CELLS,  LPMAG_FRAME,  LPMAG_FRAME * sizeof(int16_t), LPMAG_RECORD,
+        LPMAG_PACKET, LPMAG_SAMPLES, sizeof(struct lpmag_state),    sizeof(struct lpmag_fed),
+    };
     static struct reader reader;
     struct random *random = &drive->random;
     struct input input;
     begin(drive, "sizes that belong to another");
     for (unsigned i = 0; i < 200; i++) {
-        struct state state = any_state_with_a_next(random);
+        struct lpmag_state state = any_state_with_a_next(random);
         input_make(random, &input, state.last + 1, (uint8_t)random_below(random, TYPES));
-        for (enum sized room = 0; room < SIZED; room++)
-            for (enum sized other = 0; other < SIZED; other++) {
-                size_t size = right_sizes[random_below(random, 2)][other];
-                bool right = size == right_sizes[false][room] || size == right_sizes[true][room];
-                if (right || size * sizeof(int16_t) > LEND_ROOM)
+        for (enum lent_room room = 0; room < SIZED; room++)
+            for (size_t j = 0; j < sizeof sizes / sizeof sizes[0]; j++) {
+                if (sizes[j] == right_sizes[room] || sizes[j] * sizeof(int16_t) > LEND_ROOM)
                     continue;
                 reader_make(random, &reader, &state);
-                set_size(random, &reader, room, size);
+                reader_resize(random, &reader, room, sizes[j]);
                 compare_step(drive, &reader, &input, 1);
                 compare_finish(drive, &reader, 1);
             }
-        reader_make(random, &reader, &state);
-        reader.report_length = LPMAG_CLOSED;
-        reader.closed_length = LPMAG_REPORT;
-        compare_step(drive, &reader, &input, 1);
-        compare_finish(drive, &reader, 1);
     }
 }
 
@@ -134,7 +105,7 @@ static void compare_one_rule_broken(struct drive *drive)
     for (unsigned rule = GENERATE_FIRST_RULE; rule <= GENERATE_LAST_RULE; rule++)
         for (uint32_t form = 0; form < spoil_forms(rule); form++)
             for (unsigned i = 0; i < 100; i++) {
-                struct state state = any_state_with_a_next(random);
+                struct lpmag_state state = any_state_with_a_next(random);
                 reader_make(random, &reader, &state);
                 input_make(random, &input, state.last + 1, (uint8_t)random_below(random, TYPES));
                 size_t length = spoil_form(random, input.record, rule, form);
@@ -150,12 +121,12 @@ static void compare_any_record(struct drive *drive)
     struct input input;
     begin(drive, "the reader on records of every length, and on random bytes");
     for (size_t length = 0; length <= GENERATE_LONGEST; length++) {
-        struct state state = any_state_with_a_next(random);
+        struct lpmag_state state = any_state_with_a_next(random);
         reader_make(random, &reader, &state);
         random_fill(random, input.record, sizeof input.record);
         input_make(random, &input, state.last + 1, (uint8_t)random_below(random, TYPES));
         input.length = length;
-        compare_step(drive, &reader, &input, length == LPMAG_RECORD ? 0 : 2);
+        compare_step(drive, &reader, &input, length == LPMAG_RECORD ? LPMAG_OK : 2);
         random_fill(random, input.record, sizeof input.record);
         input.record[0] |= 1; /* the sync's first byte is even */
         compare_step(drive, &reader, &input, length == LPMAG_RECORD ? 3 : 2);
@@ -170,13 +141,13 @@ static void break_rule_1(struct random *random, struct reader *reader)
     enum clause clause = (enum clause)random_below(random, CLAUSES);
     bool state = random_once_in(random, 2);
     if (state && break_forms(clause) > 0) {
-        struct state broken = broken_state(random, clause, random_below(random, break_forms(clause)));
+        struct lpmag_state broken = broken_state(random, clause, random_below(random, break_forms(clause)));
         reader_set(reader, &broken);
     }
     if (!state || break_forms(clause) == 0 || random_once_in(random, 4)) {
-        enum sized room = (enum sized)random_below(random, SIZED);
-        set_size(random, reader, room,
-                 wrong_size(random, right_sizes[false][room], random_below(random, WRONG_SIZES)));
+        enum lent_room room = (enum lent_room)random_below(random, SIZED);
+        reader_resize(random, reader, room,
+                      wrong_size(random, right_sizes[room], random_below(random, WRONG_SIZES)));
     }
 }
 
@@ -185,7 +156,7 @@ static void compare_rules_broken(struct drive *drive, uint32_t rules)
 {
     static struct reader reader;
     struct random *random = &drive->random;
-    struct state state = any_state_with_a_next(random);
+    struct lpmag_state state = any_state_with_a_next(random);
     struct input input;
     uint8_t lowest = 0;
     bool late = rules >> 12 & 1;
@@ -201,7 +172,10 @@ static void compare_rules_broken(struct drive *drive, uint32_t rules)
             break_rule_1(random, &reader);
         lowest = rule;
     }
-    compare_step(drive, &reader, &input, lowest);
+    if (input.length == LPMAG_RECORD && random_once_in(random, 4))
+        compare_feed_of(drive, &reader, &input, lowest);
+    else
+        compare_step(drive, &reader, &input, lowest);
 }
 
 static void compare_several_rules_broken(struct drive *drive)

@@ -137,7 +137,7 @@ static void take_accumulation(struct drive *drive, struct stream *stream, enum f
 /* A major frame: each slot held is that of a record kept, with its subcom word, and
  * with the range and the samples of a real-time one; all else is 0. */
 static void take_major(struct drive *drive, struct stream *stream, enum function function,
-                       const struct major *major, const int16_t *samples)
+                       const struct lpmag_major *major, const int16_t *samples)
 {
     int16_t expected[LPMAG_FRAME] = {0};
     struct question question = {function, NULL, 0, {{"major frame", major->number}}};
@@ -153,7 +153,7 @@ static void take_major(struct drive *drive, struct stream *stream, enum function
         const uint8_t *packet = mag ? sent->input.record + LPMAG_PACKET_AT : NULL;
         question.also[1].name = "slot";
         question.also[1].number = slot;
-        expect_answer(drive, &question, major->mag >> slot & 1, mag);
+        expect_answer(drive, &question, major->mag_slots >> slot & 1, mag);
         expect_answer(drive, &question, major->words[slot], held ? sent->input.content.subcom : 0);
         expect_answer(drive, &question, major->ranges[slot], mag ? packet[LPMAG_MAG_AT] % 8 : 0);
         for (size_t k = 0; mag && k < LPMAG_SAMPLES; k++)
@@ -162,31 +162,31 @@ static void take_major(struct drive *drive, struct stream *stream, enum function
             sent->in_slots++;
     }
     expect_bytes(drive, &question, "the samples handed out aren't those of the slots held",
-                 (const uint8_t *)samples, (const uint8_t *)expected, sizeof expected);
+                 samples, expected, sizeof expected);
     stream->slots += ones(major->slots);
-    stream->samples += ones(major->mag) * LPMAG_SAMPLES;
+    stream->samples += ones(major->mag_slots) * LPMAG_SAMPLES;
     if (major->slots == 0xFFFF)
         drive->majors_whole++;
     else
         drive->majors_part++;
 }
 
-/* What a call of answer 0 handed out, by the report and buffers of the first. */
+/* What a call handed out, by the report and buffers of the first. */
 static void take_closed(struct drive *drive, struct stream *stream, enum function function,
-                        struct reader *reader, const uint8_t *closed)
+                        struct reader *reader, struct lpmag_closed closed)
 {
     struct rooms *cells = &reader->rooms[FINISHED_CELLS];
     struct rooms *samples = &reader->rooms[FINISHED_SAMPLES];
-    if (closed[MAJOR_CLOSED]) {
-        struct major major = get_major(closed + MAJOR_AT);
-        take_major(drive, stream, function, &major, room_of_numbers(samples, &samples->first));
-    }
-    if (closed[CELLS_CLOSED])
-        take_accumulation(drive, stream, function, get_number(closed + FIRST_AT),
-                          get_number(closed + HELD_AT), room_of_bytes(cells, &cells->first));
+    if (closed.major_closed)
+        take_major(drive, stream, function, &closed.major, room_of_numbers(samples, &samples->first));
+    if (closed.accumulation_closed)
+        take_accumulation(drive, stream, function, closed.accumulation_first, closed.accumulation_held,
+                          room_of_bytes(cells, &cells->first));
 }
 
 /* ---- the run ---------------------------------------------------------- */
+
+static const struct lpmag_state fresh;
 
 /* The last real-time record kept before this one, since finish was called; NONE if
  * there is none. */
@@ -233,7 +233,7 @@ static void compare_refused(struct drive *drive, struct reader *reader, const st
     if (rule <= GENERATE_LAST_RULE) {
         input_spoil(&drive->random, &input, rule);
         compare_step(drive, reader, &input, (uint8_t)rule);
-    } else if (sent_before != NULL && reader->state.accepted &&
+    } else if (sent_before != NULL && reader->state.any &&
                sent_before->content.count <= reader->state.last) {
         compare_step(drive, reader, sent_before, 12);
     }
@@ -241,20 +241,19 @@ static void compare_refused(struct drive *drive, struct reader *reader, const st
 
 static void compare_finish_of(struct drive *drive, struct stream *stream, struct reader *reader)
 {
-    compare_finish(drive, reader, 0);
-    take_closed(drive, stream, FINISH, reader, reader_report(reader));
-    uint64_t last = reader->state.last;
-    compare_finish(drive, reader, 0);
-    expect_true(drive, FINISH, reader->state.last == last, "finish keeps the last accepted count", last);
-    static const uint8_t nothing[LPMAG_CLOSED];
+    static const struct lpmag_closed nothing;
     struct question question = {FINISH, NULL, 0, {{NULL, 0}}};
-    expect_bytes(drive, &question, "a second finish closes something", reader_report(reader), nothing,
-                 sizeof nothing);
+    compare_finish(drive, reader, LPMAG_OK);
+    take_closed(drive, stream, FINISH, reader, reader_closed(reader));
+    uint64_t last = reader->state.last;
+    compare_finish(drive, reader, LPMAG_OK);
+    struct lpmag_closed closed = reader_closed(reader);
+    expect_true(drive, FINISH, reader->state.last == last, "finish keeps the last accepted count", last);
+    expect_bytes(drive, &question, "a second finish closes something", &closed, &nothing, sizeof nothing);
 }
 
 static void run(struct drive *drive, struct stream *stream, struct reader *reader, uint32_t made_up_once_in)
 {
-    static const struct state fresh;
     struct random *random = &drive->random;
     reader_make(random, reader, &fresh);
     for (size_t i = 0; i < stream->length; i++) {
@@ -265,15 +264,53 @@ static void run(struct drive *drive, struct stream *stream, struct reader *reade
         if (sent->fate == SPOILED)
             compare_refused(drive, reader, &sent->input, NULL);
         if (sent->fate == KEPT) {
-            compare_step(drive, reader, &sent->input, 0);
+            compare_step(drive, reader, &sent->input, LPMAG_OK);
             struct question question = {STEP, NULL, 0, {{"what became of count", sent->input.content.count}}};
-            expect_answer(drive, &question, reader_report(reader)[FATE_AT], fate_of(stream, i));
-            take_closed(drive, stream, STEP, reader, reader_report(reader) + CLOSED_AT);
+            expect_answer(drive, &question, reader_report(reader).gap, fate_of(stream, i));
+            take_closed(drive, stream, STEP, reader, reader_report(reader).closed);
         }
         if (sent->finished)
             compare_finish_of(drive, stream, reader);
     }
     compare_finish_of(drive, stream, reader);
+}
+
+/* A row of what comes in from a record on, up to the next one after which finish is
+ * called; answers the record after that. */
+static size_t make_row(struct random *random, const struct stream *stream, size_t from, struct row *row)
+{
+    row_clear(row);
+    bool finished = false;
+    size_t i = from;
+    for (; i < stream->length && !finished; i++) {
+        const struct sent *sent = &stream->sent[i];
+        finished = sent->finished;
+        if (sent->fate == KEPT)
+            row_add(row, &sent->input, LPMAG_OK);
+        if (sent->fate == SPOILED) {
+            struct input input = sent->input;
+            unsigned rule = random_between(random, GENERATE_FIRST_RULE + 1, GENERATE_LAST_RULE);
+            input_spoil(random, &input, rule);
+            row_add(row, &input, (uint8_t)rule);
+        }
+    }
+    return i;
+}
+
+/* The same by feed, with rows of any length. */
+static void run_fed(struct drive *drive, struct stream *stream, struct reader *reader)
+{
+    static struct row row;
+    struct random *random = &drive->random;
+    reader_make(random, reader, &fresh);
+    for (size_t next = 0; next < stream->length;) {
+        next = make_row(random, stream, next, &row);
+        for (size_t taken = 0; taken < row.count;) {
+            taken += compare_feed(drive, reader, &row, taken, row_part(random, &row, taken));
+            take_closed(drive, stream, FEED, reader, reader_fed(reader).closed);
+        }
+        compare_finish_of(drive, stream, reader);
+    }
 }
 
 /* Every record kept is handed out once. An accumulation is torn only where 36
@@ -306,8 +343,10 @@ static void expect_all_handed_out(struct drive *drive, struct stream *stream)
     drive->sent_real_time += real_time;
 }
 
-static void compare_sent(struct drive *drive, uint32_t others, struct losses losses, bool spoiled,
-                         uint32_t made_up_once_in, uint32_t finish_once_in)
+enum run { STEPPED, FED };
+
+static void compare_sent(struct drive *drive, enum run how, uint32_t others, struct losses losses,
+                         bool spoiled, uint32_t made_up_once_in, uint32_t finish_once_in)
 {
     static struct stream stream;
     static struct reader reader;
@@ -316,7 +355,10 @@ static void compare_sent(struct drive *drive, uint32_t others, struct losses los
     lose(&drive->random, &stream, losses, spoiled);
     for (size_t i = 0; i < stream.length; i++)
         stream.sent[i].finished = once_in(&drive->random, finish_once_in);
-    run(drive, &stream, &reader, made_up_once_in);
+    if (how == STEPPED)
+        run(drive, &stream, &reader, made_up_once_in);
+    else
+        run_fed(drive, &stream, &reader);
     expect_all_handed_out(drive, &stream);
 }
 
@@ -333,12 +375,20 @@ void drive_sent(struct drive *drive)
         {200, 30, 400}, /* long */
     };
     begin(drive, "streams sent in order, with losses of every kind, and what is handed out");
-    for (unsigned i = 0; i < 4; i++)
+    for (unsigned i = 0; i < 3; i++)
         for (size_t j = 0; j < sizeof others / sizeof others[0]; j++)
             for (size_t k = 0; k < sizeof losses / sizeof losses[0]; k++) {
-                compare_sent(drive, others[j], losses[k], false, NEVER, NEVER);
-                compare_sent(drive, others[j], losses[k], false, 10, NEVER);
-                compare_sent(drive, others[j], losses[k], true, 10, NEVER);
-                compare_sent(drive, others[j], losses[k], i % 2 == 0, 10, 50);
+                compare_sent(drive, STEPPED, others[j], losses[k], false, NEVER, NEVER);
+                compare_sent(drive, STEPPED, others[j], losses[k], false, 10, NEVER);
+                compare_sent(drive, STEPPED, others[j], losses[k], true, 10, NEVER);
+                compare_sent(drive, STEPPED, others[j], losses[k], i % 2 == 0, 10, 50);
             }
+
+    begin(drive, "the same streams fed in parts, and what is handed out");
+    for (size_t j = 0; j < sizeof others / sizeof others[0]; j++)
+        for (size_t k = 0; k < sizeof losses / sizeof losses[0]; k++) {
+            compare_sent(drive, FED, others[j], losses[k], false, NEVER, NEVER);
+            compare_sent(drive, FED, others[j], losses[k], true, NEVER, NEVER);
+            compare_sent(drive, FED, others[j], losses[k], true, NEVER, 50);
+        }
 }

@@ -7,16 +7,16 @@
 #include <system.h>
 
 /* What step has to answer to a record that passes rules 2 to 11. */
-static uint8_t expected_step(const struct state *state, uint64_t count)
+static uint8_t expected_step(const struct lpmag_state *state, uint64_t count)
 {
     if (clauses_broken(state) != 0)
         return 1;
-    return state->accepted && count <= state->last ? 12 : 0;
+    return state->any && count <= state->last ? 12 : LPMAG_OK;
 }
 
-static uint8_t expected_finish(const struct state *state)
+static uint8_t expected_finish(const struct lpmag_state *state)
 {
-    return clauses_broken(state) != 0 ? 1 : 0;
+    return clauses_broken(state) != 0 ? 1 : LPMAG_OK;
 }
 
 static uint8_t any_type(struct random *random)
@@ -24,14 +24,18 @@ static uint8_t any_type(struct random *random)
     return random_once_in(random, 3) ? other_type(random) : (uint8_t)random_below(random, TYPES);
 }
 
-/* Steps from the state with a good record, in buffers full of dirt, then finishes. */
-static void compare_next(struct drive *drive, const struct state *state, uint64_t count, uint8_t type)
+/* Steps from the state with a good record, or is fed it, in buffers full of dirt; then
+ * finishes. */
+static void compare_next(struct drive *drive, const struct lpmag_state *state, uint64_t count, uint8_t type)
 {
     static struct reader reader;
     struct input input;
     reader_make(&drive->random, &reader, state);
     input_make(&drive->random, &input, count, type);
-    compare_step(drive, &reader, &input, expected_step(state, count));
+    if (random_once_in(&drive->random, 8))
+        compare_feed_of(drive, &reader, &input, expected_step(state, count));
+    else
+        compare_step(drive, &reader, &input, expected_step(state, count));
     if (random_once_in(&drive->random, 2))
         compare_finish(drive, &reader, expected_finish(&reader.state));
 }
@@ -40,7 +44,7 @@ static void compare_next(struct drive *drive, const struct state *state, uint64_
 
 /* The count nearest to the one wanted that is above the last accepted and below
  * 2^24. */
-static uint64_t next_count(const struct state *state, uint64_t wanted)
+static uint64_t next_count(const struct lpmag_state *state, uint64_t wanted)
 {
     if (wanted <= state->last)
         return state->last + 1;
@@ -50,10 +54,10 @@ static uint64_t next_count(const struct state *state, uint64_t wanted)
 /* Every count at which something changes for a frame of the type: those around the
  * edges of the joining rule, the next, the last of this major frame, the first of
  * another and the last of all. */
-static void compare_next_counts(struct drive *drive, const struct state *state, uint8_t type)
+static void compare_next_counts(struct drive *drive, const struct lpmag_state *state, uint8_t type)
 {
-    const struct accumulation *open = &state->accumulation;
-    uint64_t earliest = open->last + open->others + (uint64_t)(type - open->type);
+    const struct lpmag_accumulation *open = &state->accumulation;
+    uint64_t earliest = open->last_count + open->others + (uint64_t)(type - open->last_type);
     const uint64_t wanted[] = {earliest - 1,   earliest,         earliest + 1,         earliest + 34,
                                earliest + 35,  earliest + 36,    state->last + 1,      state->last | 15,
                                (state->last | 15) + 1, (state->last | 15) + 16, COUNTS - 1};
@@ -65,28 +69,28 @@ static void compare_passing(struct drive *drive, bool accumulation, bool major)
 {
     static struct reader reader;
     struct random *random = &drive->random;
-    struct state state = any_state(random, accumulation, major);
+    struct lpmag_state state = any_state(random, accumulation, major);
     drive->passing++;
     if (state.last < COUNTS - 1) {
-        uint8_t above = (uint8_t)random_between(random, state.accumulation.type, TYPES - 1);
+        uint8_t above = (uint8_t)random_between(random, state.accumulation.last_type, TYPES - 1);
         compare_next_counts(drive, &state, above);
         compare_next(drive, &state, state.last + 1, any_type(random));
         compare_next(drive, &state, next_count(&state, state.last + random_below(random, 100)),
-                     (uint8_t)random_between(random, 0, state.accumulation.type));
+                     (uint8_t)random_between(random, 0, state.accumulation.last_type));
         compare_next(drive, &state, next_count(&state, state.last + random_below(random, 20)),
                      other_type(random));
     }
     compare_next(drive, &state, state.last, any_type(random));
     compare_next(drive, &state, random_between(random, 0, (uint32_t)state.last), any_type(random));
     reader_make(random, &reader, &state);
-    compare_finish(drive, &reader, 0);
-    compare_finish(drive, &reader, 0);
+    compare_finish(drive, &reader, LPMAG_OK);
+    compare_finish(drive, &reader, LPMAG_OK);
 }
 
 /* ---- states that break it --------------------------------------------- */
 
-/* Refused by both functions, whatever the record is. */
-static void compare_broken(struct drive *drive, const struct state *state)
+/* Refused by all three functions, whatever the record is and how many there are. */
+static void compare_broken(struct drive *drive, const struct lpmag_state *state)
 {
     static struct reader reader;
     struct random *random = &drive->random;
@@ -96,6 +100,7 @@ static void compare_broken(struct drive *drive, const struct state *state)
     if (random_once_in(random, 4))
         input_spoil(random, &input, random_between(random, GENERATE_FIRST_RULE, GENERATE_LAST_RULE));
     compare_step(drive, &reader, &input, 1);
+    compare_feed_refused(drive, &reader);
     compare_finish(drive, &reader, 1);
 }
 
@@ -105,31 +110,38 @@ static void compare_every_clause(struct drive *drive)
     for (enum clause clause = 0; clause < CLAUSES; clause++)
         for (uint32_t form = 0; form < break_forms(clause); form++)
             for (unsigned i = 0; i < 150; i++) {
-                struct state state = broken_state(&drive->random, clause, form);
+                struct lpmag_state state = broken_state(&drive->random, clause, form);
                 compare_broken(drive, &state);
-                drive->broken[clause]++;
+                for (enum call call = 0; call < CALLS; call++)
+                    drive->broken[call][clause]++;
             }
 
     begin(drive, "states with counts at 2^24 and past it");
     for (uint32_t form = 0; form < COUNT_FORMS; form++)
         for (unsigned i = 0; i < 500; i++) {
-            struct state state = broken_counts(&drive->random, form);
+            struct lpmag_state state = broken_counts(&drive->random, form);
             compare_broken(drive, &state);
         }
 }
 
 /* ---- any bytes -------------------------------------------------------- */
 
+enum { FLAG = offsetof(struct lpmag_state, any) };
+
 /* A state of which nothing is known but its bytes. */
 static void compare_bytes(struct drive *drive, struct reader *reader, const uint8_t *bytes)
 {
     struct random *random = &drive->random;
-    struct state state = get_state(bytes);
+    struct lpmag_state state;
     struct input input;
+    memcpy(&state, bytes, sizeof state);
     uint64_t count = next_count(&state, state.last + 1);
     reader_set(reader, &state);
     input_make(random, &input, count < COUNTS ? count : COUNTS - 1, any_type(random));
-    compare_step(drive, reader, &input, expected_step(&state, input.content.count));
+    if (random_once_in(random, 4))
+        compare_feed_of(drive, reader, &input, expected_step(&state, input.content.count));
+    else
+        compare_step(drive, reader, &input, expected_step(&state, input.content.count));
     if (random_once_in(random, 4))
         compare_finish(drive, reader, expected_finish(&reader->state));
 }
@@ -138,12 +150,12 @@ static void compare_changed_bytes(struct drive *drive)
 {
     static struct reader reader;
     struct random *random = &drive->random;
-    uint8_t bytes[LPMAG_STATE];
+    uint8_t bytes[sizeof(struct lpmag_state)];
     begin(drive, "states that keep the list, with every byte changed");
-    for (unsigned i = 0; i < 400; i++) {
-        struct state state = any_state(random, i % 2 == 0, i / 2 % 2 == 0);
+    for (unsigned i = 0; i < 300; i++) {
+        struct lpmag_state state = any_state(random, i % 2 == 0, i / 2 % 2 == 0);
         reader_make(random, &reader, &state);
-        put_state(&state, bytes);
+        memcpy(bytes, &state, sizeof bytes);
         for (size_t at = 0; at < sizeof bytes; at++) {
             uint8_t kept = bytes[at];
             const uint8_t changed[] = {(uint8_t)(kept + 1), (uint8_t)(kept - 1),
@@ -160,22 +172,22 @@ static void compare_changed_bytes(struct drive *drive)
 
 static void compare_random_bytes(struct drive *drive)
 {
-    static const struct state fresh;
+    static const struct lpmag_state fresh;
     static struct reader reader;
     struct random *random = &drive->random;
-    uint8_t bytes[LPMAG_STATE];
+    uint8_t bytes[sizeof(struct lpmag_state)];
     reader_make(random, &reader, &fresh);
     begin(drive, "states of any bytes");
     for (unsigned i = 0; i < 20000; i++) {
         random_fill(random, bytes, sizeof bytes);
-        bytes[0] = (uint8_t)(i % 4 == 0 ? bytes[0] : i % 2);
+        bytes[FLAG] = (uint8_t)(i % 4 == 0 ? bytes[FLAG] : i % 2);
         compare_bytes(drive, &reader, bytes);
     }
 
     begin(drive, "states of a few bytes that aren't 0");
     for (unsigned i = 0; i < 20000; i++) {
         memset(bytes, 0, sizeof bytes);
-        bytes[0] = (uint8_t)random_below(random, 2);
+        bytes[FLAG] = (uint8_t)random_below(random, 2);
         for (uint32_t j = random_below(random, 4); j > 0; j--)
             bytes[random_below(random, sizeof bytes)] = (uint8_t)(1 << random_below(random, 8));
         compare_bytes(drive, &reader, bytes);
@@ -185,7 +197,7 @@ static void compare_random_bytes(struct drive *drive)
 void drive_states(struct drive *drive)
 {
     begin(drive, "states that keep the list, with every kind of next record");
-    for (unsigned i = 0; i < 20000; i++)
+    for (unsigned i = 0; i < 18000; i++)
         compare_passing(drive, i % 4 < 3, i % 8 < 5);
     compare_every_clause(drive);
     compare_changed_bytes(drive);

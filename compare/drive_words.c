@@ -1,7 +1,16 @@
-/* Numbers in bytes: 16, 24 and 32 bits from a place, 12 bits in both orders. */
+/* The version; and numbers in bytes: 16, 24 and 32 bits from a place, 12 bits in both
+ * orders. */
 #include "drive.h"
 
 #include <system.h>
+
+static void compare_version(struct drive *drive)
+{
+    struct question question = {VERSION, NULL, 0, {{NULL, 0}}};
+    begin(drive, "the version");
+    same_answer(drive, &question, lpmag_version(), second_version());
+    expect_answer(drive, &question, lpmag_version(), LPMAG_VERSION);
+}
 
 static void compare_place(struct drive *drive, const uint8_t *bytes, size_t length, size_t place)
 {
@@ -142,6 +151,7 @@ static void compare_examples(struct drive *drive)
 
 void drive_words(struct drive *drive)
 {
+    compare_version(drive);
     compare_examples(drive);
     compare_ends(drive);
     compare_places(drive);

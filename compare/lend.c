@@ -19,6 +19,8 @@ static uint8_t *readable_end(void)
 /* A copy that ends there, or a number of bytes below 16 before. */
 static uint8_t *lend(uint8_t *end, bool null, size_t before, const void *bytes, size_t length)
 {
+    if (length > LEND_BYTES)
+        fail(1, "compare: more bytes were asked for than can be lent");
     if (length == 0)
         return null ? NULL : end;
     uint8_t *lent = end - length - before;
@@ -45,38 +47,71 @@ const int16_t *lend_numbers(struct random *random, const int16_t *numbers, size_
                                          count * sizeof *numbers);
 }
 
-void rooms_make(struct rooms *rooms, struct random *random, size_t length)
+const struct lpmag_major *lend_major(struct random *random, const struct lpmag_major *major)
 {
-    size_t whole = LEND_GUARD + length + LEND_GUARD;
-    if (length > LEND_ROOM)
-        fail(1, "compare: a room was asked for that is larger than any that can be lent");
-    rooms->length = length;
-    rooms->null = length == 0 && random_once_in(random, 2);
-    random_fill(random, rooms->found.bytes, whole);
-    memcpy(rooms->first.bytes, rooms->found.bytes, whole);
-    memcpy(rooms->second.bytes, rooms->found.bytes, whole);
+    static uint8_t *end = NULL;
+    if (end == NULL)
+        end = readable_end();
+    size_t before = random_once_in(random, 2) ? 0 : LEND_ALIGNED;
+    return (const struct lpmag_major *)(void *)lend(end, false, before, major, sizeof *major);
 }
 
-void rooms_put(struct rooms *rooms, const uint8_t *bytes, size_t length)
+size_t rooms_whole(const struct rooms *rooms)
 {
-    memcpy(rooms->found.bytes + LEND_GUARD, bytes, length);
-    memcpy(rooms->first.bytes + LEND_GUARD, bytes, length);
-    memcpy(rooms->second.bytes + LEND_GUARD, bytes, length);
+    return rooms->at + rooms->length + LEND_GUARD;
+}
+
+/* So many bytes from any place among many that are made once: rooms are made far more
+ * often than they need bytes of their own. */
+static const uint8_t *any_bytes(struct random *random, size_t length)
+{
+    static uint8_t made[65536];
+    static bool done = false;
+    if (!done)
+        random_fill(random, made, sizeof made);
+    done = true;
+    return made + random_below(random, (uint32_t)(sizeof made - length + 1));
+}
+
+void rooms_make(struct rooms *rooms, struct random *random, size_t length)
+{
+    if (length > LEND_ROOM)
+        fail(1, "compare: a room was asked for that is larger than any that can be lent");
+    rooms->name = NULL;
+    rooms->at = LEND_GUARD + (random_once_in(random, 2) ? LEND_ALIGNED : 0);
+    rooms->length = length;
+    rooms->null = length == 0 && random_once_in(random, 2);
+    const uint8_t *found = any_bytes(random, rooms_whole(rooms));
+    memcpy(rooms->found.bytes, found, rooms_whole(rooms));
+    memcpy(rooms->first.bytes, found, rooms_whole(rooms));
+    memcpy(rooms->second.bytes, found, rooms_whole(rooms));
+}
+
+void rooms_put(struct rooms *rooms, const void *bytes, size_t length)
+{
+    memcpy(rooms->found.bytes + rooms->at, bytes, length);
+    memcpy(rooms->first.bytes + rooms->at, bytes, length);
+    memcpy(rooms->second.bytes + rooms->at, bytes, length);
 }
 
 uint8_t *room_of_bytes(const struct rooms *rooms, union lent *lent)
 {
-    return rooms->null ? NULL : lent->bytes + LEND_GUARD;
+    return rooms->null ? NULL : lent->bytes + rooms->at;
 }
 
 int16_t *room_of_numbers(const struct rooms *rooms, union lent *lent)
 {
-    return rooms->null ? NULL : lent->numbers + LEND_GUARD / 2;
+    return rooms->null ? NULL : lent->numbers + rooms->at / sizeof lent->numbers[0];
 }
 
 float *room_of_fields(const struct rooms *rooms, union lent *lent)
 {
-    return rooms->null ? NULL : lent->fields + LEND_GUARD / 4;
+    return rooms->null ? NULL : lent->fields + rooms->at / sizeof lent->fields[0];
+}
+
+void *room_of_struct(const struct rooms *rooms, union lent *lent)
+{
+    return lent->bytes + rooms->at;
 }
 
 static bool changed(const union lent *now, const union lent *found, size_t at, size_t length)
@@ -86,8 +121,8 @@ static bool changed(const union lent *now, const union lent *found, size_t at, s
 
 static bool changed_around(const struct rooms *rooms, const union lent *now)
 {
-    return changed(now, &rooms->found, 0, LEND_GUARD) ||
-           changed(now, &rooms->found, LEND_GUARD + rooms->length, LEND_GUARD);
+    return changed(now, &rooms->found, 0, rooms->at) ||
+           changed(now, &rooms->found, rooms->at + rooms->length, LEND_GUARD);
 }
 
 const char *rooms_wrong(const struct rooms *rooms, bool kept)
@@ -96,11 +131,11 @@ const char *rooms_wrong(const struct rooms *rooms, bool kept)
         return "the first changes bytes outside its room";
     if (changed_around(rooms, &rooms->second))
         return "the second changes bytes outside its room";
-    if (kept && changed(&rooms->first, &rooms->found, LEND_GUARD, rooms->length))
+    if (kept && changed(&rooms->first, &rooms->found, rooms->at, rooms->length))
         return "the first changes a room that has to stay as found";
-    if (kept && changed(&rooms->second, &rooms->found, LEND_GUARD, rooms->length))
+    if (kept && changed(&rooms->second, &rooms->found, rooms->at, rooms->length))
         return "the second changes a room that has to stay as found";
-    if (changed(&rooms->first, &rooms->second, LEND_GUARD, rooms->length))
+    if (changed(&rooms->first, &rooms->second, rooms->at, rooms->length))
         return "the rooms differ";
     return NULL;
 }

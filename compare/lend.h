@@ -6,12 +6,14 @@
 
 #include "random.h"
 
+#include "../include/lpmag.h"
+
 #include <stdbool.h>
 #include <stddef.h>
 #include <stdint.h>
 
 /* The most bytes that can be lent at a time, to read and as a room. */
-#define LEND_BYTES 4096
+#define LEND_BYTES 32768
 #define LEND_ROOM 3072
 
 /* A copy of at most LEND_BYTES bytes. Half the time it stands right before a page
@@ -20,21 +22,25 @@
  * the next call. */
 const uint8_t *lend_bytes(struct random *random, const uint8_t *bytes, size_t length);
 
-/* Likewise numbers, in a place of their own. */
+/* Likewise numbers and a major frame, each in a place of its own and aligned. */
 const int16_t *lend_numbers(struct random *random, const int16_t *numbers, size_t count);
+const struct lpmag_major *lend_major(struct random *random, const struct lpmag_major *major);
 
-/* Around every room lie as many bytes that nobody may change. */
-#define LEND_GUARD 64
+/* Around every room lie at least so many bytes that nobody may change. It starts at a
+ * multiple of 8 bytes, as the structs need, and half the time at none of 16. */
+enum { LEND_GUARD = 64, LEND_ALIGNED = 8, LENT = LEND_GUARD + LEND_ALIGNED + LEND_ROOM + LEND_GUARD };
 
 union lent {
-    uint8_t bytes[LEND_GUARD + LEND_ROOM + LEND_GUARD];
-    int16_t numbers[(LEND_GUARD + LEND_ROOM + LEND_GUARD) / 2];
-    float fields[(LEND_GUARD + LEND_ROOM + LEND_GUARD) / 4];
+    _Alignas(2 * LEND_ALIGNED) uint8_t bytes[LENT];
+    int16_t numbers[LENT / 2];
+    float fields[LENT / 4];
 };
 
 struct rooms {
-    size_t length; /* of the room in bytes, without what lies around it */
-    bool null;     /* a room of 0 bytes at no address */
+    const char *name; /* of what is lent, or null where it needs none */
+    size_t at;        /* where the room starts among the bytes */
+    size_t length;    /* of the room in bytes, without what lies around it */
+    bool null;        /* a room of 0 bytes at no address */
     union lent found;
     union lent first;
     union lent second;
@@ -44,12 +50,16 @@ struct rooms {
 void rooms_make(struct rooms *rooms, struct random *random, size_t length);
 
 /* Puts these bytes at the start of both rooms, as what is found there. */
-void rooms_put(struct rooms *rooms, const uint8_t *bytes, size_t length);
+void rooms_put(struct rooms *rooms, const void *bytes, size_t length);
 
 /* The pointer to lend for rooms->first or rooms->second. */
 uint8_t *room_of_bytes(const struct rooms *rooms, union lent *lent);
 int16_t *room_of_numbers(const struct rooms *rooms, union lent *lent);
 float *room_of_fields(const struct rooms *rooms, union lent *lent);
+void *room_of_struct(const struct rooms *rooms, union lent *lent);
+
+/* The bytes in and around the room. */
+size_t rooms_whole(const struct rooms *rooms);
 
 /* Null if both rooms have the same content, nothing around them changed and,
  * where `kept`, the rooms themselves didn't; else what went wrong. */

@@ -32,42 +32,42 @@ static void print_column(uint64_t number)
     print_number(number);
 }
 
-/* A reading is five bytes of the fields: whether it is finite, and its bits. */
-static void print_reading(const uint8_t *reading)
+static void print_reading(uint8_t finite, uint32_t bits)
 {
-    print_text(reading[0] == 1 ? " finite:" : " not-finite:");
-    print_hex(reading + 1, 4);
+    const uint8_t bytes[4] = {(uint8_t)(bits >> 24), (uint8_t)(bits >> 16), (uint8_t)(bits >> 8),
+                              (uint8_t)bits};
+    print_text(finite ? " finite:" : " not-finite:");
+    print_hex(bytes, sizeof bytes);
 }
 
-/* The room of second_fields, as include/lpmag.h lays it out. */
-static void print_fields(const uint8_t *fields)
+static void print_fields(const struct lpmag_fields *fields)
 {
-    print_column(second_word32(fields, SECOND_FIELDS, 0)); /* count */
-    print_column(second_word16(fields, SECOND_FIELDS, 4)); /* day */
-    print_column(second_word32(fields, SECOND_FIELDS, 6)); /* millisecond */
-    print_column(fields[10]);                              /* the three flags */
-    print_number(fields[11]);
-    print_number(fields[12]);
-    print_column(fields[13]); /* code */
-    print_column(fields[14]); /* type */
-    print_text(fields[15] == SECOND_OTHER ? " other" : " real-time");
-    print_column(second_word16(fields, SECOND_FIELDS, 16)); /* subcom */
-    print_reading(fields + 18);                             /* level */
-    print_reading(fields + 23);                             /* quality */
+    print_column(fields->count);
+    print_column(fields->day);
+    print_column(fields->millisecond);
+    print_column(fields->first_flag);
+    print_number(fields->second_flag);
+    print_number(fields->third_flag);
+    print_column(fields->frame_code);
+    print_column(fields->frame_type);
+    print_text(fields->kind == LPMAG_OTHER ? " other" : " real-time");
+    print_column(fields->subcom);
+    print_reading(fields->level_finite, fields->level);
+    print_reading(fields->quality_finite, fields->quality);
 }
 
 static void print_listing(void)
 {
     uint8_t record[SECOND_RECORD];
-    uint8_t fields[SECOND_FIELDS];
+    struct lpmag_fields fields = {0};
     size_t length;
     print_text("record answer count day millisecond flags code type kind subcom level quality\n");
     for (uint64_t number = 0; (length = read_all(record, sizeof record)) > 0; number++) {
         print_number(number);
-        uint8_t refusal = second_fields(record, length, fields, sizeof fields);
-        if (refusal == 0) {
+        uint8_t refusal = second_fields(&fields, record, length);
+        if (refusal == LPMAG_OK) {
             print_text(" passes");
-            print_fields(fields);
+            print_fields(&fields);
         } else {
             print_text(" refused");
             print_column(refusal);

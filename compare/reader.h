@@ -12,42 +12,12 @@ enum { SLOTS = 16 };
 #define COUNTS ((uint64_t)1 << 24)
 
 /* Marks are the bits of a number. */
-struct accumulation {
-    uint64_t first; /* count */
-    uint64_t held;
-    uint8_t type;  /* the last */
-    uint64_t last; /* count */
-    uint64_t others;
-};
-
-struct major {
-    uint64_t number;
-    uint16_t slots;
-    uint16_t mag;
-    uint8_t ranges[SLOTS];
-    uint16_t words[SLOTS];
-};
-
-struct state {
-    uint8_t accepted;
-    uint64_t last; /* accepted count */
-    struct accumulation accumulation;
-    struct major major;
-};
-
 unsigned ones(uint64_t marks);
 unsigned highest(uint64_t marks); /* of marks that aren't 0 */
 
-/* LPMAG_STATE bytes. */
-void put_state(const struct state *state, uint8_t *bytes);
-struct state get_state(const uint8_t *bytes);
-
-/* LPMAG_MAJOR bytes. */
-struct major get_major(const uint8_t *bytes);
-
 /* The clauses that a state breaks, bit by bit. Two of them are about a count that
  * another one bounds, and are never broken alone. */
-uint32_t clauses_broken(const struct state *state);
+uint32_t clauses_broken(const struct lpmag_state *state);
 
 /* ---- records ---------------------------------------------------------- */
 
@@ -63,38 +33,81 @@ void input_make(struct random *random, struct input *input, uint64_t count, uint
 /* Breaks a rule from 2 to 11. */
 void input_spoil(struct random *random, struct input *input, unsigned rule);
 
-/* ---- calls ------------------------------------------------------------ */
+/* Records of LPMAG_RECORD bytes one after another, with what a step has to answer to
+ * each in its turn, and after them a tail of fewer bytes: what feed is given. */
+enum { MOST_IN_ROW = 1600 };
+struct row {
+    size_t count;
+    size_t tail;
+    struct input inputs[MOST_IN_ROW];
+    uint8_t answers[MOST_IN_ROW];
+    uint8_t bytes[LPMAG_RECORD * (MOST_IN_ROW + 1)];
+};
+
+void row_clear(struct row *row);
+void row_add(struct row *row, const struct input *input, uint8_t answer);
+
+/* Any bytes as the tail, after the last record was added. */
+void row_end(struct random *random, struct row *row, size_t tail);
+
+/* The bytes from a record on to the end; and any part of them to feed at once, often of
+ * less than a record or about one. */
+size_t row_left(const struct row *row, size_t from);
+size_t row_part(struct random *random, const struct row *row, size_t from);
+
+/* MAG number k of the MAG bytes (000 section 2.2). */
+int16_t mag_number(const uint8_t *mag, size_t k);
+
+/* ---- what is lent ----------------------------------------------------- */
 
 /* All that is lent to the reader, from call to call. What the rooms are found with
  * is what they have to hold. Their sizes are those that the calls tell. */
 struct reader {
-    struct state state;
-    struct rooms rooms[SIZED]; /* the last one made anew for each call */
-    size_t report_length;
-    size_t closed_length;
-    uint8_t asked[LPMAG_STATE]; /* the state of the last call, as found */
+    struct lpmag_state state;
+    struct rooms rooms[ROOMS]; /* TOLD is made anew for each call */
+    struct lpmag_state asked;  /* the state of the last call, as found */
 };
 
 /* The rooms have their right sizes, the state as told, dirt in the rest. */
-void reader_make(struct random *random, struct reader *reader, const struct state *state);
+void reader_make(struct random *random, struct reader *reader, const struct lpmag_state *state);
 
 /* Another state, all else as it is. */
-void reader_set(struct reader *reader, const struct state *state);
+void reader_set(struct reader *reader, const struct lpmag_state *state);
 
-/* Calls both and compares all: answers, rooms, what lies around them, the record.
- * With answer 0 the rooms have to be what 01 makes of them, else as found. */
+/* Another room, of so many bytes or numbers and full of dirt. */
+void reader_resize(struct random *random, struct reader *reader, enum lent_room room, size_t size);
+
+/* What a room is found with. */
+uint8_t *reader_found(struct reader *reader, enum lent_room room);
+
+/* Makes what the rooms are found with what 01 makes of it, by an accepted record and by
+ * finish; answers what the call has to tell. */
+struct lpmag_report expected_report(struct drive *drive, struct reader *reader, const struct input *input);
+struct lpmag_closed expected_closed(struct reader *reader);
+
+/* ---- calls ------------------------------------------------------------ */
+
+/* Calls both and compares all: answers, rooms, what lies around them, the bytes given.
+ * With LPMAG_OK the rooms have to be what 01 makes of them, else as found. */
 void compare_step(struct drive *drive, struct reader *reader, const struct input *input, uint8_t expected);
 void compare_finish(struct drive *drive, struct reader *reader, uint8_t expected);
 
-/* After a call of answer 0: its report, and where in it what it closed stands. */
-const uint8_t *reader_report(struct reader *reader);
-enum { FATE_AT = LPMAG_FIELDS, CLOSED_AT = LPMAG_FIELDS + 1 };
-enum { MAJOR_CLOSED = 0, MAJOR_AT = 1, CELLS_CLOSED = 61, FIRST_AT = 62, HELD_AT = 70 };
+/* Likewise, with so many bytes of a row from a record on. The rooms and what was fed have
+ * to be what comes of steps with these records, one by one, until one is refused or
+ * closes something; where rule 1 is broken, the answer 1. Answers the records taken. */
+size_t compare_feed(struct drive *drive, struct reader *reader, const struct row *row, size_t from,
+                    size_t length);
 
-/* The number of 8 bytes. */
-uint64_t get_number(const uint8_t *bytes);
+/* Feeds one record with a part of another after it, or only a part of it. */
+void compare_feed_of(struct drive *drive, struct reader *reader, const struct input *input, uint8_t answer);
 
-/* MAG number k of the MAG bytes (000 section 2.2). */
-int16_t mag_number(const uint8_t *mag, size_t k);
+/* Where rule 1 is broken: feeds no whole record, one or many, which could follow the
+ * state. */
+void compare_feed_refused(struct drive *drive, struct reader *reader);
+
+/* What the first told, after a call of LPMAG_OK. */
+struct lpmag_report reader_report(struct reader *reader);
+struct lpmag_fed reader_fed(struct reader *reader);
+struct lpmag_closed reader_closed(struct reader *reader);
 
 #endif

@@ -45,12 +45,12 @@ static const struct counts *counts(void)
 uint8_t second_count_range(uint8_t code, uint8_t divided_by, uint64_t *low, uint64_t *high)
 {
     if (divided_by != 1 && divided_by != 8 && divided_by != 16)
-        return SECOND_NO_SUCH_PLACE;
+        return LPMAG_NO_SUCH_PLACE;
 
     struct counts divided = counts()[code];
     *low = (uint64_t)divided_by * divided.least;
     *high = (uint64_t)divided_by * (divided.most + 1) - 1;
-    return 0;
+    return LPMAG_OK;
 }
 
 /* A sum past 64 bits comes out below what was added to. */
@@ -60,10 +60,10 @@ uint8_t second_count_sum(uint64_t low_a, uint64_t high_a, uint64_t low_b, uint64
     uint64_t low_sum = low_a + low_b;
     uint64_t high_sum = high_a + high_b;
     if (low_sum < low_a || high_sum < high_a)
-        return SECOND_TOO_LARGE;
+        return LPMAG_TOO_LARGE;
     *low = low_sum;
     *high = high_sum;
-    return 0;
+    return LPMAG_OK;
 }
 
 /* ---- angles ----------------------------------------------------------- */
@@ -95,6 +95,6 @@ static const uint8_t phase_space_map[ANODES][PHASES] = {
 uint8_t second_angle(size_t anode, size_t phase)
 {
     if (anode >= ANODES || phase >= PHASES)
-        return SECOND_NO_SUCH_BIN;
+        return LPMAG_NO_SUCH_BIN;
     return phase_space_map[anode][phase];
 }

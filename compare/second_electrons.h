@@ -1,8 +1,9 @@
 /* The second reader's electrons: the accumulation and the questions about it,
- * counts and angles. The functions and their answers are those of
- * include/lpmag.h, under the prefix second_; papers and slices as in second.h. */
+ * counts and angles. Functions, papers and slices as in second.h. */
 #ifndef SECOND_ELECTRONS_H
 #define SECOND_ELECTRONS_H
+
+#include "../include/lpmag.h"
 
 #include <stdbool.h>
 #include <stddef.h>
@@ -13,23 +14,20 @@
 #define SECOND_SCIENCE_AT 85 /* 000 section 2.1.1 */
 #define SECOND_CELLS 2997    /* 01, "ER cells": 2,988 cells and 9 bytes of bit pairs */
 
-/* Answers that give no value, beside SECOND_NO_SUCH_PLACE of second.h. */
-#define SECOND_ABSENT 9         /* 01, "Counts" */
-#define SECOND_SCALE_UNKNOWN 10 /* 01, "Counts" */
-#define SECOND_TOO_LARGE 11     /* a sum past 64 bits */
-#define SECOND_NO_SUCH_BIN 88   /* 01, "Angles" */
-
 /* True when the Format 1 table, as it is written here, gives 83 cells to each
  * type and each of the 2,988 cells once (01, "ER cells"). Nothing below means
  * anything otherwise. */
 bool second_format_whole(void);
 
-/* 0, or SECOND_NO_SUCH_PLACE; then the cells stay as found. */
+/* LPMAG_OK, or LPMAG_NO_SUCH_PLACE; then the cells stay as found. */
 uint8_t second_lay_electrons(uint8_t code, const uint8_t *science, size_t length, uint8_t *cells,
                              size_t cells_length);
 
-/* The questions: 0, or an answer that gives no value; then the numbers lent stay
- * as found. `held` has the bit of weight 2^u for a held type u. */
+/* How many samples an energy bin has, or LPMAG_NO_SUCH_BIN. */
+uint8_t second_bin_samples(size_t bin);
+
+/* The questions: LPMAG_OK, or an answer that gives no value; then the numbers lent
+ * stay as found. `held` has the bit of weight 2^u for a held type u. */
 uint8_t second_cell(const uint8_t *cells, size_t length, uint64_t held, size_t cell, uint8_t *byte);
 uint8_t second_electron_sample(const uint8_t *cells, size_t length, uint64_t held, size_t bin, size_t number,
                                size_t angle, uint64_t *low, uint64_t *high);
@@ -43,7 +41,7 @@ uint8_t second_count_range(uint8_t code, uint8_t divided_by, uint64_t *low, uint
 uint8_t second_count_sum(uint64_t low_a, uint64_t high_a, uint64_t low_b, uint64_t high_b, uint64_t *low,
                          uint64_t *high);
 
-/* The angle 0 to 87, or SECOND_NO_SUCH_BIN. */
+/* The angle 0 to 87, or LPMAG_NO_SUCH_BIN. */
 uint8_t second_angle(size_t anode, size_t phase);
 
 #endif

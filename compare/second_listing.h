@@ -16,7 +16,7 @@ struct second_listing {
     bool telling;     /* of each refused record, on standard error */
     uint64_t records; /* so far, accepted and refused */
     uint64_t refused;
-    uint8_t state[SECOND_STATE];
+    struct lpmag_state state;
     uint8_t open_cells[SECOND_CELLS];
     uint8_t finished_cells[SECOND_CELLS];
     int16_t open_samples[SECOND_FRAME];

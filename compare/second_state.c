@@ -1,81 +1,88 @@
-/* The second reader's state: in bytes as include/lpmag.h lays them out, and by
- * 01's list, a function for each of its clauses. */
+/* The second reader's state: its marks, and rule 1's demands on what was lent, a
+ * function for each: the header's on the flag and the spare fields, and each clause of
+ * 01's list. */
 #include "second_state.h"
-
-#include "second_reader.h"
 
 /* Counts have 24 bits (01, "The record"). */
 #define COUNTS 16777216
 
-/* ---- in bytes --------------------------------------------------------- */
+/* ---- marks ------------------------------------------------------------ */
 
-/* These read from a place and move it past what they read. */
-static uint64_t take_number(const uint8_t **place, size_t size)
+/* Mark i is the bit of weight 2^i, so the first is told by whether the number is odd. */
+static void read_marks(uint64_t number, bool *marks, size_t count)
 {
-    uint64_t number = 0;
-    for (; size > 0; size--)
-        number = 256 * number + *(*place)++;
-    return number;
+    for (size_t i = 0; i < count; i++, number /= 2)
+        marks[i] = number % 2 == 1;
 }
 
-/* Mark 0 is the least significant bit of the last byte. */
-static void take_marks(const uint8_t **place, bool *marks, size_t count)
-{
-    const uint8_t *end = *place + count / 8;
-    for (size_t i = 0; i < count; i++)
-        marks[i] = end[-1 - (long)(i / 8)] >> i % 8 & 1;
-    *place = end;
-}
-
-uint8_t *second_put_number(uint8_t *place, uint64_t number, size_t size)
-{
-    for (size_t i = size; i > 0; i--, number /= 256)
-        place[i - 1] = (uint8_t)(number % 256);
-    return place + size;
-}
-
-uint8_t *second_put_marks(uint8_t *place, const bool *marks, size_t count)
+static uint64_t number_of(const bool *marks, size_t count)
 {
     uint64_t number = 0;
     for (size_t i = count; i > 0; i--)
         number = 2 * number + marks[i - 1];
-    return second_put_number(place, number, count / 8);
+    return number;
 }
 
-void second_read_major(const uint8_t *bytes, struct second_major_frame *major)
+uint64_t second_lent_held(const struct second_accumulation *accumulation)
 {
-    major->number = take_number(&bytes, 8);
-    take_marks(&bytes, major->held, SECOND_SLOTS);
-    take_marks(&bytes, major->mag, SECOND_SLOTS);
-    for (size_t slot = 0; slot < SECOND_SLOTS; slot++)
-        major->ranges[slot] = (uint8_t)take_number(&bytes, 1);
-    for (size_t slot = 0; slot < SECOND_SLOTS; slot++)
-        major->words[slot] = (uint16_t)take_number(&bytes, 2);
+    return number_of(accumulation->held, SECOND_FRAME_MARKS);
 }
 
-uint8_t *second_put_major(uint8_t *place, const struct second_major_frame *major)
+struct second_major_frame second_read_major(const struct lpmag_major *lent)
 {
-    place = second_put_number(place, major->number, 8);
-    place = second_put_marks(place, major->held, SECOND_SLOTS);
-    place = second_put_marks(place, major->mag, SECOND_SLOTS);
-    for (size_t slot = 0; slot < SECOND_SLOTS; slot++)
-        place = second_put_number(place, major->ranges[slot], 1);
-    for (size_t slot = 0; slot < SECOND_SLOTS; slot++)
-        place = second_put_number(place, major->words[slot], 2);
-    return place;
+    struct second_major_frame major = {.number = lent->number};
+    read_marks(lent->slots, major.held, SECOND_SLOTS);
+    read_marks(lent->mag_slots, major.mag, SECOND_SLOTS);
+    for (size_t slot = 0; slot < SECOND_SLOTS; slot++) {
+        major.ranges[slot] = lent->ranges[slot];
+        major.words[slot] = lent->words[slot];
+    }
+    return major;
 }
 
-void second_write_state(const struct second_state *state, uint8_t *bytes)
+struct lpmag_major second_lent_major(const struct second_major_frame *major)
+{
+    struct lpmag_major lent = {.number = major->number,
+                               .slots = (uint16_t)number_of(major->held, SECOND_SLOTS),
+                               .mag_slots = (uint16_t)number_of(major->mag, SECOND_SLOTS)};
+    for (size_t slot = 0; slot < SECOND_SLOTS; slot++) {
+        lent.ranges[slot] = major->ranges[slot];
+        lent.words[slot] = major->words[slot];
+    }
+    return lent;
+}
+
+static struct second_accumulation read_accumulation(const struct lpmag_accumulation *lent)
+{
+    struct second_accumulation accumulation = {.first_count = lent->first,
+                                               .last_type = lent->last_type,
+                                               .last_count = lent->last_count,
+                                               .others = lent->others};
+    read_marks(lent->held, accumulation.held, SECOND_FRAME_MARKS);
+    return accumulation;
+}
+
+struct lpmag_state second_lent_state(const struct second_state *state)
 {
     const struct second_accumulation *accumulation = &state->accumulation;
-    bytes = second_put_number(bytes, state->accepted, 1);
-    bytes = second_put_number(bytes, state->last_accepted, 8);
-    bytes = second_put_number(bytes, accumulation->first_count, 8);
-    bytes = second_put_marks(bytes, accumulation->held, SECOND_FRAME_MARKS);
-    bytes = second_put_number(bytes, accumulation->last_type, 1);
-    bytes = second_put_number(bytes, accumulation->last_count, 8);
-    bytes = second_put_number(bytes, accumulation->others, 8);
-    second_put_major(bytes, &state->major);
+    return (struct lpmag_state){.last = state->last_accepted,
+                                .any = state->accepted ? 1 : 0,
+                                .accumulation = {.first = accumulation->first_count,
+                                                 .held = second_lent_held(accumulation),
+                                                 .last_count = accumulation->last_count,
+                                                 .others = accumulation->others,
+                                                 .last_type = accumulation->last_type},
+                                .major = second_lent_major(&state->major)};
+}
+
+/* ---- what is no state ------------------------------------------------- */
+
+/* include/lpmag.h, refusal 1: "a spare field other than 0" */
+static bool spares_zero(const struct lpmag_state *lent)
+{
+    const struct lpmag_accumulation *accumulation = &lent->accumulation;
+    return lent->spare8 == 0 && lent->spare16 == 0 && lent->spare32 == 0 && accumulation->spare8 == 0 &&
+           accumulation->spare16 == 0 && accumulation->spare32 == 0 && lent->major.spare32 == 0;
 }
 
 /* ---- 01's list -------------------------------------------------------- */
@@ -185,34 +192,26 @@ static bool closed_are_zero(const struct second_state *state)
 }
 
 /* "Until something is accepted, all is 0." */
-static bool all_zero(const uint8_t *bytes)
+static bool all_zero(const struct lpmag_state *lent)
 {
-    for (size_t i = 0; i < SECOND_STATE; i++)
+    const uint8_t *bytes = (const uint8_t *)lent;
+    for (size_t i = 0; i < sizeof *lent; i++)
         if (bytes[i] != 0)
             return false;
     return true;
 }
 
 /* That an open accumulation holds a frame and an open major frame a slot is what
- * "open" means in these bytes. */
-bool second_read_state(const uint8_t *bytes, size_t length, struct second_state *state)
+ * "open" means in the struct. */
+bool second_read_state(const struct lpmag_state *lent, struct second_state *state)
 {
-    if (length != SECOND_STATE || bytes[0] > 1)
+    if (lent->any > 1 || !spares_zero(lent))
         return false;
 
-    const uint8_t *place = bytes;
-    struct second_accumulation *accumulation = &state->accumulation;
-    state->accepted = take_number(&place, 1) == 1;
-    state->last_accepted = take_number(&place, 8);
-    accumulation->first_count = take_number(&place, 8);
-    take_marks(&place, accumulation->held, SECOND_FRAME_MARKS);
-    accumulation->last_type = (uint8_t)take_number(&place, 1);
-    accumulation->last_count = take_number(&place, 8);
-    accumulation->others = take_number(&place, 8);
-    second_read_major(place, &state->major);
-
-    return counts_below(state) && frames_right(accumulation) && frames_fit(accumulation) &&
+    *state = (struct second_state){lent->any == 1, lent->last, read_accumulation(&lent->accumulation),
+                                   second_read_major(&lent->major)};
+    return counts_below(state) && frames_right(&state->accumulation) && frames_fit(&state->accumulation) &&
            others_fit(state) && mag_slots_right(&state->major) && last_slot_right(state) &&
            ranges_and_words_right(&state->major) && closed_are_zero(state) &&
-           (state->accepted || all_zero(bytes));
+           (state->accepted || all_zero(lent));
 }

@@ -1,13 +1,15 @@
-/* The second reader's state: what its bytes say, and the list of 01 that it has
- * to keep. */
+/* The second reader's state: a mark for each frame and slot, from and to the structs
+ * of include/lpmag.h, and what rule 1 asks of it. */
 #ifndef SECOND_STATE_H
 #define SECOND_STATE_H
+
+#include "../include/lpmag.h"
 
 #include <stdbool.h>
 #include <stddef.h>
 #include <stdint.h>
 
-/* The bytes have 64 marks for frames, of which 36 can be one. */
+/* The struct has 64 marks for frames, of which 36 can be one. */
 enum { SECOND_TYPES = 36, SECOND_FRAME_MARKS = 64, SECOND_SLOTS = 16 };
 
 /* The accumulation that is open if it holds a frame. */
@@ -38,18 +40,15 @@ struct second_state {
 size_t second_frames_held(const struct second_accumulation *accumulation);
 size_t second_slots_held(const struct second_major_frame *major);
 
-/* Reads a state; false when the bytes are none, or it breaks the list. */
-bool second_read_state(const uint8_t *bytes, size_t length, struct second_state *state);
-void second_write_state(const struct second_state *state, uint8_t *bytes);
+/* Reads what was lent as a state; false when it is none, or breaks the list. */
+bool second_read_state(const struct lpmag_state *lent, struct second_state *state);
+struct lpmag_state second_lent_state(const struct second_state *state);
 
-/* SECOND_MAJOR bytes, in which anything may stand. */
-void second_read_major(const uint8_t *bytes, struct second_major_frame *major);
+/* A major frame, in which anything may stand. */
+struct second_major_frame second_read_major(const struct lpmag_major *lent);
+struct lpmag_major second_lent_major(const struct second_major_frame *major);
 
-/* These write from a place on and answer the place after it: a major frame, the
- * low bytes of a number, most significant first, and a number that has the bit of
- * weight 2^i for mark i. */
-uint8_t *second_put_major(uint8_t *place, const struct second_major_frame *major);
-uint8_t *second_put_number(uint8_t *place, uint64_t number, size_t size);
-uint8_t *second_put_marks(uint8_t *place, const bool *marks, size_t count);
+/* The number that has the bit of weight 2^u for a held type u. */
+uint64_t second_lent_held(const struct second_accumulation *accumulation);
 
 #endif

@@ -45,36 +45,36 @@ static uint64_t any_held(struct random *random)
 
 /* First count, last and last accepted, each as far after the one before as the list
  * demands, and some room. */
-static void open_accumulation(struct random *random, struct state *state)
+static void open_accumulation(struct random *random, struct lpmag_state *state)
 {
-    struct accumulation *open = &state->accumulation;
+    struct lpmag_accumulation *open = &state->accumulation;
     open->held = any_held(random);
-    open->type = (uint8_t)highest(open->held);
+    open->last_type = (uint8_t)highest(open->held);
     open->others = room(random);
     uint64_t frames = ones(open->held) - 1 + room(random);
     uint64_t after = open->others + room(random);
     open->first = up_to(random, COUNTS - 1 - frames - after);
-    open->last = open->first + frames;
-    state->last = open->last + after;
+    open->last_count = open->first + frames;
+    state->last = open->last_count + after;
 }
 
 /* The slot of the last accepted count, and any before it. */
-static void open_major(struct random *random, struct state *state)
+static void open_major(struct random *random, struct lpmag_state *state)
 {
-    struct major *open = &state->major;
+    struct lpmag_major *open = &state->major;
     unsigned last = state->last & 15;
     open->number = state->last >> 4;
     open->slots = (uint16_t)(1u << last | (up_to(random, 0xFFFF) & ((1u << last) - 1)));
-    open->mag = (uint16_t)(up_to(random, 0xFFFF) & open->slots);
+    open->mag_slots = (uint16_t)(up_to(random, 0xFFFF) & open->slots);
     for (unsigned slot = 0; slot < SLOTS; slot++) {
-        open->ranges[slot] = open->mag >> slot & 1 ? (uint8_t)up_to(random, 7) : 0;
+        open->ranges[slot] = open->mag_slots >> slot & 1 ? (uint8_t)up_to(random, 7) : 0;
         open->words[slot] = open->slots >> slot & 1 ? (uint16_t)up_to(random, 0xFFFF) : 0;
     }
 }
 
-struct state any_state(struct random *random, bool accumulation, bool major)
+struct lpmag_state any_state(struct random *random, bool accumulation, bool major)
 {
-    struct state state = {.accepted = 1};
+    struct lpmag_state state = {.any = 1};
     if (accumulation)
         open_accumulation(random, &state);
     else
@@ -98,13 +98,15 @@ uint32_t break_forms(enum clause clause)
         return PAST_COUNTS;
     case FRAMES_AMONG_36:
         return 2 * (64 - TYPES);
-    case ACCEPTED_IS_0_OR_1:
+    case FLAG_IS_0_OR_1:
     case HIGHEST_SLOT:
     case RANGES_TO_7:
     case RANGES_NOT_HELD:
     case WORDS_NOT_HELD:
     case NO_SLOT_HELD:
         return 4;
+    case SPARES_ARE_0:
+        return 5;
     case HIGHEST_IS_LAST_TYPE:
     case FIRST_AND_FRAMES:
         return 6;
@@ -122,59 +124,90 @@ uint32_t break_forms(enum clause clause)
 }
 
 /* The last accepted count moves, and the open major frame with it. */
-static void move_last(struct random *random, struct state *state, uint64_t last)
+static void move_last(struct random *random, struct lpmag_state *state, uint64_t last)
 {
     bool major = state->major.slots != 0;
     state->last = last;
-    state->major = (struct major){0};
+    state->major = (struct lpmag_major){0};
     if (major)
         open_major(random, state);
 }
 
-static void drop_slot(struct major *open, unsigned slot)
+static void drop_slot(struct lpmag_major *open, unsigned slot)
 {
     open->slots &= (uint16_t)~(1u << slot);
-    open->mag &= (uint16_t)~(1u << slot);
+    open->mag_slots &= (uint16_t)~(1u << slot);
     open->ranges[slot] = 0;
     open->words[slot] = 0;
 }
 
+/* The bit among the spare fields of the state or of its accumulation. */
+static void set_among(uint8_t *spare8, uint16_t *spare16, uint32_t *spare32, unsigned bit)
+{
+    if (bit < 8)
+        *spare8 |= (uint8_t)(1u << bit);
+    else if (bit < 8 + 16)
+        *spare16 |= (uint16_t)(1u << (bit - 8));
+    else
+        *spare32 |= 1u << (bit - 8 - 16);
+}
+
+void set_spare_bit(struct lpmag_state *state, unsigned bit)
+{
+    struct lpmag_accumulation *accumulation = &state->accumulation;
+    if (bit < SPARES)
+        set_among(&state->spare8, &state->spare16, &state->spare32, bit);
+    else if (bit < 2 * SPARES)
+        set_among(&accumulation->spare8, &accumulation->spare16, &accumulation->spare32, bit - SPARES);
+    else
+        state->major.spare32 |= 1u << (bit - 2 * SPARES);
+}
+
+/* Some bits, the last form all. */
+static void break_spares(struct random *random, struct lpmag_state *state, uint32_t form)
+{
+    for (uint32_t i = 0; i <= form; i++)
+        set_spare_bit(state, random_below(random, SPARE_BITS));
+    for (unsigned bit = 0; form == 4 && bit < SPARE_BITS; bit++)
+        set_spare_bit(state, bit);
+}
+
 /* A mark from 36 on, among the others or alone. */
-static void break_frames(struct accumulation *open, uint32_t form)
+static void break_frames(struct lpmag_accumulation *open, uint32_t form)
 {
     uint32_t mark = TYPES + form / 2;
     open->held = (uint64_t)1 << mark | (form % 2 == 0 ? open->held : 0);
-    open->type = (uint8_t)mark;
+    open->last_type = (uint8_t)mark;
 }
 
-static void break_last_type(struct random *random, struct accumulation *open, uint32_t form)
+static void break_last_type(struct random *random, struct lpmag_accumulation *open, uint32_t form)
 {
     const uint8_t types[] = {
-        (uint8_t)(open->type + 1),
-        (uint8_t)(open->type - 1),
-        (uint8_t)(open->type + 64),                               /* of the same low six bits */
+        (uint8_t)(open->last_type + 1),
+        (uint8_t)(open->last_type - 1),
+        (uint8_t)(open->last_type + 64),                          /* of the same low six bits */
         (uint8_t)__builtin_ctzll(open->held | (uint64_t)1 << 63), /* the lowest held */
         255,
         (uint8_t)random_next(random),
     };
-    open->type = types[form];
+    open->last_type = types[form];
 }
 
-static void break_first(struct random *random, struct accumulation *open, uint32_t form)
+static void break_first(struct random *random, struct lpmag_accumulation *open, uint32_t form)
 {
     uint64_t frames = ones(open->held);
     switch (form) {
     case 0:
-        open->first = open->last - frames + 2;
+        open->first = open->last_count - frames + 2;
         break;
     case 1:
-        open->last = open->first + frames - 2;
+        open->last_count = open->first + frames - 2;
         break;
     case 2:
-        open->first = open->last;
+        open->first = open->last_count;
         break;
     case 3:
-        open->first = open->last + 1;
+        open->first = open->last_count + 1;
         break;
     case 4:
         open->first = COUNTS - 1;
@@ -186,27 +219,27 @@ static void break_first(struct random *random, struct accumulation *open, uint32
 
 /* A sum that is one too large, or whose low 32 bits are small, or that leaves 64
  * bits and comes back small; or a last count that is too large by itself. */
-static void break_others(struct random *random, struct state *state, uint32_t form)
+static void break_others(struct random *random, struct lpmag_state *state, uint32_t form)
 {
-    struct accumulation *open = &state->accumulation;
+    struct lpmag_accumulation *open = &state->accumulation;
     const uint64_t others[] = {
-        state->last - open->last + 1,
+        state->last - open->last_count + 1,
         (uint64_t)1 << 32,
         (uint64_t)1 << 63,
-        UINT64_MAX,     /* with the last count, one less than that */
-        0 - open->last, /* with it, 0 */
-        COUNTS - open->last,
+        UINT64_MAX,           /* with the last count, one less than that */
+        0 - open->last_count, /* with it, 0 */
+        COUNTS - open->last_count,
     };
     const uint64_t lasts[] = {state->last + 1, up_to(random, COUNTS - 1)};
     if (form < 6) {
         open->others = others[form];
     } else {
-        open->last = lasts[form - 6];
+        open->last_count = lasts[form - 6];
         open->others = 0;
     }
 }
 
-static void break_number(struct random *random, struct major *open, uint32_t form)
+static void break_number(struct random *random, struct lpmag_major *open, uint32_t form)
 {
     const uint64_t numbers[] = {
         open->number + 1,
@@ -221,7 +254,7 @@ static void break_number(struct random *random, struct major *open, uint32_t for
 }
 
 /* Another slot, or the last one gone. */
-static void break_slots(struct random *random, struct state *state, uint32_t form)
+static void break_slots(struct random *random, struct lpmag_state *state, uint32_t form)
 {
     if (form < 2)
         drop_slot(&state->major, state->last & 15);
@@ -229,7 +262,7 @@ static void break_slots(struct random *random, struct state *state, uint32_t for
         state->major.slots |= (uint16_t)(1u << (form == 2 ? 15 : random_below(random, SLOTS)));
 }
 
-static void break_closed(struct random *random, struct accumulation *closed, uint32_t form)
+static void break_closed(struct random *random, struct lpmag_accumulation *closed, uint32_t form)
 {
     switch (form) {
     case 0:
@@ -238,11 +271,11 @@ static void break_closed(struct random *random, struct accumulation *closed, uin
         break;
     case 2:
     case 3:
-        closed->type = (uint8_t)(form == 2 ? 1 : up_to(random, 255));
+        closed->last_type = (uint8_t)(form == 2 ? 1 : up_to(random, 255));
         break;
     case 4:
     case 5:
-        closed->last = form == 4 ? 1 : up_to(random, COUNTS - 1);
+        closed->last_count = form == 4 ? 1 : up_to(random, COUNTS - 1);
         break;
     default:
         closed->others = form == 6 ? 1 : UINT64_MAX;
@@ -251,11 +284,11 @@ static void break_closed(struct random *random, struct accumulation *closed, uin
 
 /* Nothing was accepted, but something isn't 0: the least that keeps all other
  * clauses, or anything. */
-static void break_nothing(struct random *random, struct state *state, uint32_t form)
+static void break_nothing(struct random *random, struct lpmag_state *state, uint32_t form)
 {
     if (form < 6)
-        *state = (struct state){0};
-    state->accepted = 0;
+        *state = (struct lpmag_state){0};
+    state->any = 0;
     switch (form) {
     case 0:
         state->last = 1;
@@ -270,7 +303,7 @@ static void break_nothing(struct random *random, struct state *state, uint32_t f
         state->major.slots = 1;
         break;
     case 4:
-        state->major.slots = state->major.mag = 1;
+        state->major.slots = state->major.mag_slots = 1;
         state->major.ranges[0] = 7;
         break;
     case 5:
@@ -280,17 +313,20 @@ static void break_nothing(struct random *random, struct state *state, uint32_t f
     }
 }
 
-static void break_clause(struct random *random, struct state *state, enum clause clause, uint32_t form)
+static void break_clause(struct random *random, struct lpmag_state *state, enum clause clause, uint32_t form)
 {
-    static const uint8_t marks[4] = {2, 3, 128, 255};
+    static const uint8_t flags[4] = {2, 3, 128, 255};
     static const uint8_t ranges[4] = {8, 16, 128, 255};
     static const uint8_t ranges_not_held[4] = {1, 7, 8, 255};
     static const uint16_t words[4] = {0x0001, 0x0100, 0x8000, 0xFFFF};
     const uint64_t numbers[4] = {1, state->last >> 4, (uint64_t)1 << 60, UINT64_MAX};
     unsigned slot = random_below(random, SLOTS);
     switch (clause) {
-    case ACCEPTED_IS_0_OR_1:
-        state->accepted = marks[form];
+    case FLAG_IS_0_OR_1:
+        state->any = flags[form];
+        break;
+    case SPARES_ARE_0:
+        break_spares(random, state, form);
         break;
     case LAST_ACCEPTED_BELOW:
         move_last(random, state, past_counts[form]);
@@ -308,7 +344,7 @@ static void break_clause(struct random *random, struct state *state, enum clause
         break_others(random, state, form);
         break;
     case MAG_AMONG_SLOTS:
-        state->major.mag |= (uint16_t)(1u << slot);
+        state->major.mag_slots |= (uint16_t)(1u << slot);
         break;
     case MAJOR_NUMBER:
         break_number(random, &state->major, form);
@@ -341,10 +377,10 @@ static void break_clause(struct random *random, struct state *state, enum clause
 
 /* Most changes break the clause, and only it, in some states and not in others;
  * so it is tried until one comes that serves. */
-struct state broken_state(struct random *random, enum clause clause, uint32_t form)
+struct lpmag_state broken_state(struct random *random, enum clause clause, uint32_t form)
 {
     for (unsigned tries = 0; tries < 100000; tries++) {
-        struct state state = any_state(random, coin(random), coin(random));
+        struct lpmag_state state = any_state(random, coin(random), coin(random));
         break_clause(random, &state, clause, form);
         if (clauses_broken(&state) == 1u << clause)
             return state;
@@ -352,10 +388,10 @@ struct state broken_state(struct random *random, enum clause clause, uint32_t fo
     fail(1, "compare: no state was found that breaks a clause of the list alone");
 }
 
-struct state broken_counts(struct random *random, uint32_t form)
+struct lpmag_state broken_counts(struct random *random, uint32_t form)
 {
-    struct state state = any_state(random, true, false);
-    struct accumulation *open = &state.accumulation;
+    struct lpmag_state state = any_state(random, true, false);
+    struct lpmag_accumulation *open = &state.accumulation;
     uint64_t past = past_counts[random_below(random, PAST_COUNTS)];
     uint64_t frames = ones(open->held) - 1;
     switch (form) {
@@ -363,23 +399,23 @@ struct state broken_counts(struct random *random, uint32_t form)
         state.last = past;
         break;
     case 1: /* and the last real-time */
-        open->last = state.last = past;
+        open->last_count = state.last = past;
         open->others = 0;
         break;
     case 2: /* and the first */
         open->first = past - frames;
-        open->last = state.last = past;
+        open->last_count = state.last = past;
         open->others = 0;
         break;
     case 3: /* the last real-time alone */
-        open->last = past;
+        open->last_count = past;
         break;
     case 4: /* the first alone */
         open->first = past;
         break;
     default: /* the first, so large that with the frames it comes back small */
         open->held = ALL_HELD;
-        open->type = TYPES - 1;
+        open->last_type = TYPES - 1;
         open->first = 0 - (uint64_t)random_between(random, 1, TYPES - 1);
     }
     if (coin(random))

@@ -6,19 +6,22 @@
 #include "reader.h"
 
 /* A state that keeps the list, something having been accepted. */
-struct state any_state(struct random *random, bool accumulation, bool major);
+struct lpmag_state any_state(struct random *random, bool accumulation, bool major);
 
 /* The number of forms in which a clause can be broken alone; 0 for the two that
  * can't be, since another count bounds theirs. */
 uint32_t break_forms(enum clause clause);
 
 /* A state that breaks this clause and keeps all others. */
-struct state broken_state(struct random *random, enum clause clause, uint32_t form);
+struct lpmag_state broken_state(struct random *random, enum clause clause, uint32_t form);
+
+/* Sets one of the SPARE_BITS. */
+void set_spare_bit(struct lpmag_state *state, unsigned bit);
 
 /* A state with a count at 2^24 or past it, which may break other clauses too: the
  * last accepted; the last real-time with it; the first with both; the last real-time
  * alone; the first alone; the first, so large that the frames make it small. */
 enum { COUNT_FORMS = 6 };
-struct state broken_counts(struct random *random, uint32_t form);
+struct lpmag_state broken_counts(struct random *random, uint32_t form);
 
 #endif

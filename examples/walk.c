@@ -1,5 +1,5 @@
-/* Walks a merged file record by record and prints some of what the reader hands out:
- * how the library is used from C, over lpmag.h alone.
+/* Walks a merged file and prints some of what the reader hands out: how the library is
+ * used from C, over lpmag_reader.h.
  *   cc -Iinclude examples/walk.c target/staticlib/liblpmag.a -o walk
  *   ./walk FILE [N]
  * It prints the N-th major frame and the N-th accumulation handed out, the first if no
@@ -9,27 +9,18 @@
 #include <stdio.h>
 #include <stdlib.h>
 
-#include "lpmag.h"
+#include "lpmag_reader.h"
 
-/* What is asked of the accumulation: one energy bin and one 3D energy step; bin 7 has 4
- * samples (lpmag.h, "the electrons"). */
-enum { BIN = 7, BIN_SAMPLES = 4, STEP = 0 };
-enum { BIN_ANGLES = 16, STEP_ANGLES = 88, SLOTS = 16, RULES = 13 };
-
-/* Where things stand in a report, what a call closed, a major frame (lpmag.h, "the reader"). */
-enum { REPORT_CLOSED = 29 };
-enum { MAJOR_CLOSED = 0, MAJOR = 1, ACCUMULATION_CLOSED = 61, FIRST_COUNT = 62, FRAMES = 70 };
-enum { MAJOR_NUMBER = 0, MAJOR_SLOTS = 8, MAJOR_MAG = 10, MAJOR_RANGES = 12 };
+/* What is asked of the accumulation: one energy bin and one 3D energy step. */
+enum { BIN = 7, STEP = 0 };
+enum { BIN_ANGLES = 16, STEP_ANGLES = 88, SLOTS = 16, RULES = 13, RECORDS_OF_A_READ = 256 };
 
 struct walk {
-    /* Handed to each call as the last call left them; all 0 is the fresh state. */
-    uint8_t state[LPMAG_STATE];
-    uint8_t open_cells[LPMAG_CELLS], finished_cells[LPMAG_CELLS];
-    int16_t open_samples[LPMAG_FRAME], finished_samples[LPMAG_FRAME];
-
+    struct lpmag_reader reader;
     uint64_t wanted;                /* N */
     uint64_t majors, accumulations; /* handed out so far */
-    uint64_t answers[RULES + 1];    /* records accepted, and refused by each rule */
+    uint64_t records;               /* taken so far, */
+    uint64_t refused[RULES + 1];    /* and of them refused, by rule */
 };
 
 static _Noreturn void give_up(const char *sentence)
@@ -37,11 +28,6 @@ static _Noreturn void give_up(const char *sentence)
     fflush(stdout); /* what was printed comes before the sentence */
     fprintf(stderr, "walk: %s\n", sentence);
     exit(1);
-}
-
-static uint64_t word64(const uint8_t *bytes, size_t length, size_t at)
-{
-    return (uint64_t)lpmag_word32(bytes, length, at) << 32 | lpmag_word32(bytes, length, at + 4);
 }
 
 /* The numbers of the bits that are set. */
@@ -62,7 +48,7 @@ static void print_counts(uint8_t answer, const uint64_t range[2])
 {
     char counts[48]; /* two numbers of up to 20 digits */
     const char *text = counts;
-    if (answer == 0)
+    if (answer == LPMAG_OK)
         snprintf(counts, sizeof counts, "%" PRIu64 "-%" PRIu64, range[0], range[1]);
     else if (answer == LPMAG_ABSENT)
         text = "absent"; /* the frame that carries it isn't held */
@@ -78,8 +64,8 @@ static void print_bin(const uint8_t *cells, uint64_t held)
     printf("\nenergy bin %d, counts by pitch angle, a column for each sample", BIN);
     for (size_t angle = 0; angle < BIN_ANGLES; angle++) {
         printf("\n%6zu", angle);
-        for (size_t number = 0; number < BIN_SAMPLES; number++) {
-            uint64_t range[2];
+        for (size_t number = 0; number < lpmag_bin_samples(BIN); number++) {
+            uint64_t range[2] = {0};
             print_counts(
                 lpmag_electron_sample(cells, LPMAG_CELLS, held, BIN, number, angle, &range[0], &range[1]),
                 range);
@@ -91,7 +77,7 @@ static void print_step(const uint8_t *cells, uint64_t held)
 {
     printf("\n3D energy step %d, counts by angle, four a line", STEP);
     for (size_t angle = 0; angle < STEP_ANGLES; angle++) {
-        uint64_t range[2];
+        uint64_t range[2] = {0};
         if (angle % 4 == 0)
             printf("\n%6zu", angle);
         print_counts(lpmag_three_d(cells, LPMAG_CELLS, held, STEP, angle, &range[0], &range[1]), range);
@@ -101,7 +87,7 @@ static void print_step(const uint8_t *cells, uint64_t held)
 
 static void print_accumulation(const uint8_t *cells, uint64_t first_count, uint64_t held)
 {
-    uint64_t range[2];
+    uint64_t range[2] = {0};
     printf("accumulation, first count %" PRIu64 "\n", first_count);
     print_marks("types held", held);
     printf("Total ");
@@ -114,13 +100,13 @@ static void print_accumulation(const uint8_t *cells, uint64_t first_count, uint6
 
 /* ---- a major frame ---------------------------------------------------- */
 
-static void print_words(const uint8_t *major)
+static void print_words(const struct lpmag_major *major)
 {
     printf("subcom words by slot:");
     for (size_t slot = 0; slot < SLOTS; slot++) {
-        uint16_t word;
-        uint8_t answer = lpmag_major_word(major, LPMAG_MAJOR, slot, &word);
-        if (answer == 0)
+        uint16_t word = 0;
+        uint8_t answer = lpmag_major_word(major, slot, &word);
+        if (answer == LPMAG_OK)
             printf(" %" PRIu16, word);
         else if (answer == LPMAG_ABSENT)
             printf(" absent");
@@ -131,12 +117,12 @@ static void print_words(const uint8_t *major)
 }
 
 /* The 18 vectors of a slot that is held with MAG. */
-static void print_field(const uint8_t *major, const int16_t *samples, size_t slot)
+static void print_field(const struct lpmag_major *major, const int16_t *samples, size_t slot)
 {
-    printf("nominal field in nT of slot %zu, range %d: x, y, z", slot, major[MAJOR_RANGES + slot]);
+    printf("nominal field in nT of slot %zu, range %d: x, y, z", slot, major->ranges[slot]);
     for (size_t number = 0; number < LPMAG_SAMPLES; number++) {
-        float field;
-        if (lpmag_major_field(major, LPMAG_MAJOR, samples, LPMAG_FRAME, slot, number, &field) != 0)
+        float field = 0;
+        if (lpmag_major_field(major, samples, LPMAG_FRAME, slot, number, &field) != LPMAG_OK)
             give_up("there is no such field");
         if (number % 3 == 0)
             printf("\n%6zu", number / 3);
@@ -145,15 +131,14 @@ static void print_field(const uint8_t *major, const int16_t *samples, size_t slo
     printf("\n");
 }
 
-static void print_major(const uint8_t *major, const int16_t *samples)
+static void print_major(const struct lpmag_major *major, const int16_t *samples)
 {
-    uint16_t mag = lpmag_word16(major, LPMAG_MAJOR, MAJOR_MAG);
     size_t slot = 0;
-    printf("major frame, number %" PRIu64 "\n", word64(major, LPMAG_MAJOR, MAJOR_NUMBER));
-    print_marks("slots held", lpmag_word16(major, LPMAG_MAJOR, MAJOR_SLOTS));
-    print_marks("slots held with MAG", mag);
+    printf("major frame, number %" PRIu64 "\n", major->number);
+    print_marks("slots held", major->slots);
+    print_marks("slots held with MAG", major->mag_slots);
     print_words(major);
-    while (slot < SLOTS && (mag >> slot & 1) == 0)
+    while (slot < SLOTS && (major->mag_slots >> slot & 1) == 0)
         slot++;
     if (slot < SLOTS)
         print_field(major, samples, slot);
@@ -162,54 +147,72 @@ static void print_major(const uint8_t *major, const int16_t *samples)
 /* ---- the walk --------------------------------------------------------- */
 
 /* What was closed stays in the finished buffers until the next is closed into them. */
-static void take(struct walk *walk, const uint8_t *closed)
+static void take(struct walk *walk, const struct lpmag_closed *closed)
 {
-    if (closed[MAJOR_CLOSED] == 1 && ++walk->majors == walk->wanted)
-        print_major(closed + MAJOR, walk->finished_samples);
-    if (closed[ACCUMULATION_CLOSED] == 1 && ++walk->accumulations == walk->wanted)
-        print_accumulation(walk->finished_cells, word64(closed, LPMAG_CLOSED, FIRST_COUNT),
-                           word64(closed, LPMAG_CLOSED, FRAMES));
+    const struct lpmag_reader *reader = &walk->reader;
+    if (closed->major_closed && ++walk->majors == walk->wanted)
+        print_major(&closed->major, reader->finished_samples);
+    if (closed->accumulation_closed && ++walk->accumulations == walk->wanted)
+        print_accumulation(reader->finished_cells, closed->accumulation_first, closed->accumulation_held);
 }
 
-static void step(struct walk *walk, const uint8_t *record, size_t length)
+static void count(struct walk *walk, uint64_t records, uint8_t answer)
 {
-    uint8_t report[LPMAG_REPORT];
-    uint8_t answer = lpmag_step(walk->state, LPMAG_STATE, walk->open_cells, LPMAG_CELLS, walk->finished_cells,
-                                LPMAG_CELLS, walk->open_samples, LPMAG_FRAME, walk->finished_samples,
-                                LPMAG_FRAME, record, length, report, LPMAG_REPORT);
-    if (answer == 1 || answer > RULES)
+    walk->records += records;
+    if (answer != LPMAG_OK)
+        walk->refused[answer]++;
+}
+
+static void expect_ok(uint8_t answer)
+{
+    if (answer != LPMAG_OK)
         give_up("the state or a buffer isn't what the last call left");
-    walk->answers[answer]++;
-    if (answer == 0)
-        take(walk, report + REPORT_CLOSED);
 }
 
-static void finish(struct walk *walk)
+/* Whole records, and maybe a short one after them. Each call takes records up to one that is refused or
+ * closes something: all before that one were accepted. */
+static void walk_records(struct walk *walk, const uint8_t *bytes, size_t length)
 {
-    uint8_t closed[LPMAG_CLOSED];
-    if (lpmag_finish(walk->state, LPMAG_STATE, walk->open_cells, LPMAG_CELLS, walk->finished_cells,
-                     LPMAG_CELLS, walk->open_samples, LPMAG_FRAME, walk->finished_samples, LPMAG_FRAME,
-                     closed, LPMAG_CLOSED) != 0)
-        give_up("the state or a buffer isn't what the last call left");
-    take(walk, closed);
+    struct lpmag_reader *reader = &walk->reader;
+    do {
+        expect_ok(lpmag_reader_feed(reader, bytes, length));
+        bytes += reader->fed.taken;
+        length -= reader->fed.taken;
+        count(walk, reader->fed.taken / LPMAG_RECORD, reader->fed.answer);
+        take(walk, &reader->fed.closed);
+    } while (reader->fed.taken > 0);
+    if (length > 0)
+        count(walk, 1, lpmag_reader_step(reader, bytes, length));
 }
 
-static void print_refused(const uint64_t answers[RULES + 1])
+static void walk_file(struct walk *walk, FILE *file)
+{
+    static uint8_t bytes[RECORDS_OF_A_READ * LPMAG_RECORD];
+    size_t length;
+    lpmag_reader_init(&walk->reader);
+    while ((length = fread(bytes, 1, sizeof bytes, file)) > 0) /* less than it asks for at the end alone */
+        walk_records(walk, bytes, length);
+    if (ferror(file))
+        give_up("the file can't be read");
+    expect_ok(lpmag_reader_finish(&walk->reader));
+    take(walk, &walk->reader.closed);
+}
+
+static void print_refused(const struct walk *walk)
 {
     uint64_t refused = 0;
-    for (int rule = 1; rule <= RULES; rule++) {
-        refused += answers[rule];
-        if (answers[rule] > 0)
-            printf("refused by rule %d: %" PRIu64 "\n", rule, answers[rule]);
+    uint8_t words[LPMAG_WORDS] = {0};
+    for (uint8_t rule = 1; rule <= RULES; rule++) {
+        refused += walk->refused[rule];
+        if (walk->refused[rule] > 0 && lpmag_refusal_words(rule, words, sizeof words) > 0)
+            printf("refused by rule %d, %s: %" PRIu64 "\n", rule, words, walk->refused[rule]);
     }
-    printf("refused: %" PRIu64 " of %" PRIu64 " records\n", refused, refused + answers[0]);
+    printf("refused: %" PRIu64 " of %" PRIu64 " records\n", refused, walk->records);
 }
 
 int main(int argc, char **argv)
 {
     static struct walk walk;
-    uint8_t record[LPMAG_RECORD];
-    size_t length;
     char *end = "";
     walk.wanted = argc == 3 ? strtoul(argv[2], &end, 10) : 1;
     if (argc < 2 || argc > 3 || walk.wanted == 0 || *end != '\0' || (argc == 3 && argv[2][0] == '-'))
@@ -217,21 +220,15 @@ int main(int argc, char **argv)
     FILE *file = fopen(argv[1], "rb");
     if (file == NULL)
         give_up("the file can't be opened");
-
-    /* What is left at the end, if it is less than a record, goes in with its length. */
-    while ((length = fread(record, 1, sizeof record, file)) > 0)
-        step(&walk, record, length);
-    if (ferror(file))
-        give_up("the file can't be read");
+    walk_file(&walk, file);
     fclose(file);
-    finish(&walk);
 
-    print_refused(walk.answers);
+    print_refused(&walk);
     if (walk.accumulations < walk.wanted)
         give_up("no accumulation was handed out, or fewer than N");
     if (walk.majors < walk.wanted)
         give_up("no major frame was handed out, or fewer than N");
-    if (fflush(stdout) != 0)
+    if (fflush(stdout) != 0 || ferror(stdout))
         give_up("what was found can't be written");
     return 0;
 }

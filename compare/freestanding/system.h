@@ -4,16 +4,13 @@
 #define FREESTANDING_SYSTEM_H
 
 #include <stddef.h>
+#include <string.h>
 
 int open(const char *name, int flags, ...);
 int close(int file);
 long read(int file, void *room, size_t length);
 long write(int file, const void *bytes, size_t length);
 _Noreturn void exit(int status);
-
-void *memcpy(void *restrict to, const void *restrict from, size_t length);
-void *memset(void *room, int byte, size_t length);
-int memcmp(const void *one, const void *other, size_t length);
 
 void *mmap(void *wanted, size_t length, int protection, int flags, int file, long offset);
 int mprotect(void *start, size_t length, int protection);

@@ -7,7 +7,7 @@ use Prim.Native.Nat.{ℕ}
 use lib.ListN.{length}
 use borrow.Author.Tests.{eq-eqb, ne-eqb}
 use Rattle.record.specs.Rules.{broken}
-use Rattle.c_answers.specs.Answers.{nowhere, wordsNumber, Given, ValueGiven}
+use Rattle.c_answers.specs.Answers.{nowhere, notHeld, wordsNumber, Given, ValueGiven}
 
 -- a question for a record
 module _ (size : ℕ) (value r room : List ℕ) where
@@ -22,7 +22,7 @@ module _ (size : ℕ) (value r room : List ℕ) where
 
 -- an answer of three: the value, "absent", "no such place"
 pub told {ℓ} : {A X : Type ℓ} (place held : Bool) (v old : A) (code : X → ℕ) (value : X → A) (a b c x : X)
-    → x ≡ cond place (cond held a b) c → code a ≡ 0 → code b ≡ 9 → code c ≡ nowhere → value a ≡ v → value b ≡ old → value c ≡ old
+    → x ≡ cond place (cond held a b) c → code a ≡ 0 → code b ≡ notHeld → code c ≡ nowhere → value a ≡ v → value b ≡ old → value c ≡ old
     → ValueGiven place held v old (code x) (value x)
 unfolding wordsNumber
 told place held v old code value a b c x e p q r f g h =

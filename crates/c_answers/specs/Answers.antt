@@ -12,21 +12,29 @@ use Rattle.record.specs.Rules.{broken}
 
 -- LPMAG_NO_SUCH_PLACE
 abbrev pub nowhere : ℕ
-nowhere = 8
+nowhere = 128
+
+-- LPMAG_ABSENT
+abbrev pub notHeld : ℕ
+notHeld = 129
+
+-- LPMAG_SCALE_UNKNOWN
+abbrev pub unscaled : ℕ
+unscaled = 130
 
 -- LPMAG_TOO_LARGE
 abbrev pub tooLarge : ℕ
-tooLarge = 11
+tooLarge = 131
 
 -- LPMAG_NO_SUCH_BIN
 abbrev pub noSuchBin : ℕ
-noSuchBin = 88
+noSuchBin = 132
 
 -- 01's words as include/lpmag.h numbers them: LPMAG_NO_SUCH_PLACE, LPMAG_ABSENT, LPMAG_SCALE_UNKNOWN, 0
 unfoldable pub wordsNumber : Words → ℕ
 wordsNumber noSuchPlace = nowhere
-wordsNumber absent = 9
-wordsNumber scaleUnknown = 10
+wordsNumber absent = notHeld
+wordsNumber scaleUnknown = unscaled
 wordsNumber given = 0
 
 -- a room of the size given is asked for, and a record: 1 for a room of another size, else the record's number (01, "Numbers a

@@ -3,16 +3,17 @@ ghost use mathlib.Core.Bool.{true};
 ghost use Rattle.c_answers.specs.Answers.{RangeGiven};
 use counts::Range;
 
-// LPMAG_NO_SUCH_PLACE, LPMAG_ABSENT, LPMAG_SCALE_UNKNOWN, LPMAG_TOO_LARGE, LPMAG_NO_SUCH_BIN.
-pub const NOWHERE: u8 = 8;
+// LPMAG_NO_SUCH_PLACE, LPMAG_ABSENT, LPMAG_SCALE_UNKNOWN, LPMAG_TOO_LARGE, LPMAG_NO_SUCH_BIN: above every refusal's number and every
+// value that a function answers by itself.
+pub const NOWHERE: u8 = 128;
 
-pub const ABSENT: u8 = 9;
+pub const ABSENT: u8 = 129;
 
-pub const SCALE_UNKNOWN: u8 = 10;
+pub const SCALE_UNKNOWN: u8 = 130;
 
-pub const TOO_LARGE: u8 = 11;
+pub const TOO_LARGE: u8 = 131;
 
-pub const NO_SUCH_BIN: u8 = 88;
+pub const NO_SUCH_BIN: u8 = 132;
 
 // A range goes to the two numbers lent for it.
 pub fn give(r: Range, low: &mut u64, high: &mut u64) -> u8

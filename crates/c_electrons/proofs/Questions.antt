@@ -17,7 +17,7 @@ use Rattle.cells.specs.declared.raw.Raw.the-variants as raw
 use Rattle.electrons.specs.Questions.{Asked, answer, words, gives, countSaid, CountIs}
 use Rattle.electrons.specs.declared.questions.Count.{Count}
 use Rattle.electrons.specs.declared.questions.Count.the-variants.{Within, ScaleUnknown, Absent, NoSuchPlace}
-use Rattle.c_answers.specs.Answers.{nowhere, wordsNumber, RangeGiven}
+use Rattle.c_answers.specs.Answers.{nowhere, notHeld, wordsNumber, RangeGiven}
 use Rattle.c_answers.proofs.Outcomes.{told}
 use Rattle.c_electrons.specs.Handing.{endOf, CountGiven}
 use Rattle.c_electrons.specs.Electrons.{LaidGiven, ByteGiven, AskedGiven}
@@ -36,7 +36,7 @@ laid-told code sc c r s c′ is e = record {
 -- the raw cell
 abbrev pub byteCode : Raw → ℕ
 byteCode (raw.Byte b) = 0
-byteCode raw.Absent = 9
+byteCode raw.Absent = notHeld
 byteCode raw.NoSuchPlace = nowhere
 
 abbrev pub byteValue : ℕ → Raw → ℕ

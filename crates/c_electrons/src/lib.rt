@@ -1,8 +1,10 @@
 // The electrons of an accumulation, for C; include/lpmag.h documents each function.
+ghost use mathlib.Core.Path.{_≡_};
 ghost use Rattle.electrons.specs.Questions.{totalCell, rateCell, sampleAsked, threeAsked, headerAsked};
-ghost use Rattle.c_electrons.specs.Electrons.{LaidGiven, ByteGiven, AskedGiven};
+ghost use Rattle.c_electrons.specs.Electrons.{LaidGiven, ByteGiven, AskedGiven, binSamples};
 ghost use Rattle.c_electrons.specs.Handing.{CountGiven};
 use c_answers::ABSENT;
+use c_answers::NO_SUCH_BIN;
 use c_answers::NOWHERE;
 use c_answers::SCALE_UNKNOWN;
 use c_answers::give;
@@ -97,4 +99,14 @@ pub extern "C" fn lpmag_rate(cells: &[u8], held: u64, low: &mut u64, high: &mut 
         (now (low .entry)) (now (high .entry)) n (now (low .exit)) (now (high .exit)) ⌝ }
 {
     hand_out(electrons::rate(cells, held), low, high)
+}
+
+#[no_mangle]
+pub extern "C" fn lpmag_bin_samples(bin: usize) -> u8
+    ensures { λ n. ⌜ n ≡ binSamples bin ⌝ }
+{
+    if 14 < bin {
+        return NO_SUCH_BIN;
+    }
+    electrons::samples_in(bin) as u8
 }

@@ -3,6 +3,7 @@ mod places;
 mod questions;
 mod scale;
 
+pub use places::samples_in;
 pub use questions::Count;
 pub use questions::rate;
 pub use questions::sample;

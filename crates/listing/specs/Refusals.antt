@@ -34,6 +34,13 @@ wordsOf rule = ascii (getD words rule "")
 abbrev pub wordsSize : ℕ
 wordsSize = 76
 
+-- the words with a byte of 0 after them, as C has a text, and what is asked to be free for it
+unfoldable pub meaning : ℕ → List ℕ
+meaning rule = wordsOf rule ++ (0 ∷ [])
+
+abbrev pub meaningSize : ℕ
+meaningSize = 80
+
 -- the record, counted from 0, and where it begins in the input
 unfoldable pub place : ℕ → ℕ → List ℕ
 place n offset = ascii "record" ++ spaced n (ascii " at byte" ++ (space ∷ decimal offset))

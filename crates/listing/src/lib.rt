@@ -9,6 +9,7 @@ mod text;
 pub use lines::put_closed;
 pub use lines::put_header;
 pub use lines::put_refused;
+pub use refusals::put_meaning;
 pub use refusals::put_refusal;
 
 // The bytes of the header line.
@@ -23,3 +24,6 @@ pub const REFUSED: usize = 29;
 
 // The most bytes of the line about a refused record.
 pub const REFUSAL: usize = 170;
+
+// Room for the words of any number, and more than they need.
+pub const MEANING: usize = 80;

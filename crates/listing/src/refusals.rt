@@ -2,7 +2,8 @@
 ghost use Prim.Native.Nat.{_+_, _≤_};
 ghost use lib.ListN.{length};
 ghost use Rattle.listing.specs.Text.{Put, Written};
-ghost use Rattle.listing.specs.Refusals.{wordsSize, wordsOf, placeSize, place, refusalSize, refusalLine};
+ghost use Rattle.listing.specs.Refusals.{wordsSize, wordsOf, meaningSize, meaning, placeSize, place, refusalSize, refusalLine};
+use crate::MEANING;
 use crate::REFUSAL;
 use crate::decimal::put_number;
 use crate::text::put;
@@ -58,6 +59,17 @@ fn put_words(rule: u8, out: &mut [u8], at: usize) -> usize
     let from = ends[number - 1];
     let to = ends[number];
     put(&words[from..to], out, at)
+}
+
+// The words for a number, and a byte of 0 after them.
+pub fn put_meaning(rule: u8, out: &mut [u8], at: usize) -> usize
+    ensures { λ r. ⌜ Written meaningSize (meaning rule) (now (out .entry)) at (now (out .exit)) r ⌝ }
+{
+    if !has_room(out.len(), at, MEANING) {
+        return at;
+    }
+    let after_words = put_words(rule, out, at);
+    put(&[0], out, after_words)
 }
 
 // Which record it is.

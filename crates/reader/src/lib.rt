@@ -5,6 +5,7 @@ mod samples_part;
 mod steps;
 
 pub use steps::finish;
+pub use steps::right_sizes;
 pub use steps::step;
 
 // The open and the finished cells have cells::SIZE bytes each, the open and the finished samples so many numbers: 16 slots of 54.

@@ -10,7 +10,7 @@ use state::State;
 use state::Stepped;
 
 // Are the four buffers, of so many elements, each of its size?
-fn right_sizes(
+pub fn right_sizes(
     open_cells: usize,
     finished_cells: usize,
     open_samples: usize,

@@ -1,5 +1,5 @@
 -- One answer: any two outcomes that a promise allows are equal, for each public function.
--- (`bits_of`, `carries_mag` and `carries_science` promise an equation: `one` of tables is its law.)
+-- (`bits_of`, `kind_number`, `carries_mag` and `carries_science` promise an equation: `one` of tables is its law.)
 -- Assumes nothing.
 use mathlib.Core.Path.{_≡_}
 use mathlib.Core.Bool.{Bool}

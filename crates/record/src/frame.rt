@@ -1,6 +1,6 @@
 // The kind of a frame, by the Frame Type in the low six bits of the Frame Code (000, section 2.1; 01, "The packet").
 ghost use mathlib.Core.Path.{_≡_};
-ghost use Rattle.record.specs.Frame.{kindOfType, KindIs, carriesMag, carriesScience};
+ghost use Rattle.record.specs.Frame.{kindOfType, KindIs, kindNumber, carriesMag, carriesScience};
 use crate::Record;
 
 pub enum Kind {
@@ -28,6 +28,17 @@ pub fn kind_of(packet: &[u8]) -> Kind
     }
     let t = packet[Record::CODE_AT] % 64;
     kind_of_type(t)
+}
+
+// The kind as one number; those that are no real-time type lie above all types.
+pub fn kind_number(kind: Kind) -> u8
+    ensures { λ n. ⌜ n ≡ kindNumber kind ⌝ }
+{
+    match kind {
+        Kind::RealTime(t) => t,
+        Kind::Other => 64,
+        Kind::Undefined => 65,
+    }
 }
 
 // Does a frame of this kind carry MAG that is kept?

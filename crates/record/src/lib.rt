@@ -9,6 +9,7 @@ mod values;
 pub use frame::Kind;
 pub use frame::carries_mag;
 pub use frame::carries_science;
+pub use frame::kind_number;
 pub use frame::kind_of;
 pub use part::mag_bytes;
 pub use part::packet;

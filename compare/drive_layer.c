@@ -1,0 +1,79 @@
+/* The layer of include/lpmag_reader.h: what it lends to the reader's functions, and where
+ * it keeps what they tell. */
+#include "reader.h"
+
+#include "../include/lpmag_reader.h"
+#include "electrons.h"
+#include "streams.h"
+
+/* All of both readers, after the same calls. */
+static void same_layers(struct drive *drive, const struct question *question, uint8_t first, uint8_t second,
+                        const struct lpmag_reader *layer, const struct lpmag_reader *expected)
+{
+    same_answer(drive, question, first, second);
+    expect_bytes(drive, question, "the layer's reader isn't what it has to be", layer, expected,
+                 sizeof *expected);
+}
+
+static uint8_t step(struct lpmag_reader *reader, const uint8_t *record, size_t length)
+{
+    return second_step(&reader->state, &reader->report, reader->open_cells, LPMAG_CELLS,
+                       reader->finished_cells, LPMAG_CELLS, reader->open_samples, LPMAG_FRAME,
+                       reader->finished_samples, LPMAG_FRAME, record, length);
+}
+
+static uint8_t feed(struct lpmag_reader *reader, const uint8_t *bytes, size_t length)
+{
+    return second_feed(&reader->state, &reader->fed, reader->open_cells, LPMAG_CELLS, reader->finished_cells,
+                       LPMAG_CELLS, reader->open_samples, LPMAG_FRAME, reader->finished_samples, LPMAG_FRAME,
+                       bytes, length);
+}
+
+static uint8_t finish(struct lpmag_reader *reader)
+{
+    return second_finish(&reader->state, &reader->closed, reader->open_cells, LPMAG_CELLS,
+                         reader->finished_cells, LPMAG_CELLS, reader->open_samples, LPMAG_FRAME,
+                         reader->finished_samples, LPMAG_FRAME);
+}
+
+/* Any bytes are a record to refuse; they come between good ones, fed and stepped. */
+static void compare_calls(struct drive *drive, struct lpmag_reader *layer, struct lpmag_reader *expected)
+{
+    struct random *random = &drive->random;
+    uint64_t count = random_below(random, 1000);
+    for (unsigned i = 0; i < 300; i++, count += stream_ahead(random)) {
+        struct input input;
+        input_make(random, &input, count, stream_type(random, expected->state.accumulation.last_type));
+        if (random_once_in(random, 8))
+            random_fill(random, input.record, input.length);
+
+        struct question question = {STEP, input.record, input.length, {{NULL, 0}}};
+        if (random_once_in(random, 2)) {
+            same_layers(drive, &question, lpmag_reader_step(layer, input.record, input.length),
+                        step(expected, input.record, input.length), layer, expected);
+        } else {
+            question.function = FEED;
+            same_layers(drive, &question, lpmag_reader_feed(layer, input.record, input.length),
+                        feed(expected, input.record, input.length), layer, expected);
+        }
+        if (random_once_in(random, 50)) {
+            question = (struct question){FINISH, NULL, 0, {{NULL, 0}}};
+            same_layers(drive, &question, lpmag_reader_finish(layer), finish(expected), layer, expected);
+        }
+    }
+}
+
+void drive_layer(struct drive *drive)
+{
+    static struct lpmag_reader layer, expected;
+    struct question question = {STEP, NULL, 0, {{NULL, 0}}};
+    begin(drive, "the layer of lpmag_reader.h");
+    for (unsigned i = 0; i < 20; i++) {
+        random_fill(&drive->random, (uint8_t *)&layer, sizeof layer);
+        memset(&expected, 0, sizeof expected);
+        lpmag_reader_init(&layer);
+        expect_bytes(drive, &question, "a fresh reader of the layer isn't all 0", &layer, &expected,
+                     sizeof expected);
+        compare_calls(drive, &layer, &expected);
+    }
+}

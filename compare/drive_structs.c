@@ -1,0 +1,385 @@
+/* The structs that the reader's functions are lent: every flag byte, every bit of the
+ * spare fields, and every field with a value of its own at its own place. */
+#include "states.h"
+
+#include "electrons.h"
+#include "text.h"
+
+#include <system.h>
+
+/* ---- flags and spare fields ------------------------------------------- */
+
+static const struct lpmag_state fresh;
+
+/* Each function by itself, with a state that has to be good or not, and a good record
+ * that can follow it. */
+static void compare_state(struct drive *drive, const struct lpmag_state *state, bool good)
+{
+    static struct reader reader;
+    struct random *random = &drive->random;
+    struct question question = {STEP, NULL, 0, {{"flag", state->any}}};
+    struct input input;
+    uint8_t expected = good ? LPMAG_OK : 1;
+    drive->state = state;
+    expect_answer(drive, &question, clauses_broken(state) == 0, good);
+    input_make(random, &input, state->last + 1, (uint8_t)random_below(random, TYPES));
+    reader_make(random, &reader, state);
+    compare_step(drive, &reader, &input, expected);
+    reader_make(random, &reader, state);
+    if (good)
+        compare_feed_of(drive, &reader, &input, expected);
+    else
+        compare_feed_refused(drive, &reader);
+    reader_make(random, &reader, state);
+    compare_finish(drive, &reader, expected);
+}
+
+static struct lpmag_state any_good_state(struct random *random)
+{
+    struct lpmag_state state;
+    do
+        state = any_state(random, random_once_in(random, 2), random_once_in(random, 2));
+    while (state.last == 0 || state.last == COUNTS - 1);
+    return state;
+}
+
+/* 0 only where nothing else is other than 0, 1 always. */
+static void compare_flags(struct drive *drive)
+{
+    begin(drive, "every flag byte, in the fresh state and in others");
+    for (unsigned i = 0; i < 8; i++)
+        for (unsigned flag = 0; flag < 256; flag++) {
+            bool is_fresh = i < 2;
+            struct lpmag_state state = is_fresh ? fresh : any_good_state(&drive->random);
+            state.any = (uint8_t)flag;
+            compare_state(drive, &state, flag == 1 || (flag == 0 && is_fresh));
+            for (enum call call = 0; call < CALLS; call++)
+                drive->flags[call][is_fresh][flag]++;
+        }
+}
+
+static void compare_spares(struct drive *drive)
+{
+    begin(drive, "every bit of the spare fields, in the fresh state and in others");
+    for (unsigned i = 0; i < 16; i++)
+        for (unsigned bit = 0; bit < SPARE_BITS; bit++) {
+            struct lpmag_state state = i < 2 ? fresh : any_good_state(&drive->random);
+            set_spare_bit(&state, bit);
+            compare_state(drive, &state, false);
+            for (enum call call = 0; call < CALLS; call++)
+                drive->spares[call][bit]++;
+        }
+}
+
+/* ---- what comes in, and what is known by it --------------------------- */
+
+/* The records of a major frame by their slots: o is an other frame, r a real-time frame
+ * of the next type, - one of the next type that is lost. */
+static const char sent[] = "orrrr-rrorrrrooo";
+enum { FRAMES = 11 }; /* real-time, the lost one too */
+
+/* The slots up to one of them, all in one accumulation and one major frame. */
+struct known {
+    uint64_t number;
+    uint16_t slots, mag_slots;
+    uint16_t words[SLOTS];
+    uint8_t ranges[SLOTS];
+    uint64_t first, held, last_count, others, last;
+    uint8_t last_type;
+    size_t records;
+    struct input inputs[SLOTS]; /* the records, without the lost one */
+    uint8_t gaps[SLOTS];        /* what becomes of each */
+};
+
+static bool all_differ(const uint64_t *numbers, size_t count)
+{
+    for (size_t i = 0; i < count; i++)
+        for (size_t j = i + 1; j < count; j++)
+            if (numbers[i] == numbers[j])
+                return false;
+    return true;
+}
+
+/* A record of which all fields differ that can; the flags have two values for three, and
+ * the kind of a real-time frame is its type. */
+static void make_input(struct random *random, struct input *input, uint64_t count, uint8_t type)
+{
+    struct lpmag_fields made;
+    bool differ;
+    do {
+        input_make(random, input, count, type);
+        made = fields_of(&input->content);
+        const uint64_t numbers[] = {made.count, made.millisecond, made.level,      made.quality,
+                                    made.day,   made.subcom,      made.frame_code, made.frame_type};
+        differ = all_differ(numbers, sizeof numbers / sizeof numbers[0]) &&
+                 made.level_finite != made.quality_finite && made.subcom != 0 &&
+                 (made.first_flag != made.second_flag || made.second_flag != made.third_flag);
+    } while (!differ);
+}
+
+static void add_record(struct random *random, struct known *known, unsigned slot, uint8_t type)
+{
+    struct input *input = &known->inputs[known->records];
+    uint64_t count = SLOTS * known->number + slot;
+    bool real_time = type < TYPES;
+    make_input(random, input, count, type);
+    known->gaps[known->records++] = !real_time         ? LPMAG_NEITHER
+                                    : known->held == 0 ? LPMAG_OPENS
+                                                       : LPMAG_JOINS;
+    known->slots |= (uint16_t)(1u << slot);
+    known->words[slot] = input->content.subcom;
+    known->last = count;
+    known->others += !real_time && known->held != 0;
+    if (real_time) {
+        uint8_t *status = &input->record[LPMAG_PACKET_AT + LPMAG_MAG_AT];
+        *status = (uint8_t)((*status & 0xF8) + (3 * slot + 5) % 8); /* neighbours differ */
+        known->mag_slots |= (uint16_t)(1u << slot);
+        known->ranges[slot] = *status & 7;
+        known->first = known->held == 0 ? count : known->first;
+        known->held |= (uint64_t)1 << type;
+        known->last_type = type;
+        known->last_count = count;
+        known->others = 0;
+    }
+}
+
+/* The slots below a last one, from the fresh state. */
+static void make_records(struct random *random, struct known *known, unsigned slots)
+{
+    *known = (struct known){.number = random_between(random, 1000, (uint32_t)(COUNTS / SLOTS) - 2)};
+    uint8_t type = (uint8_t)random_between(random, 3, TYPES - FRAMES);
+    for (unsigned slot = 0; slot < slots; slot++) {
+        if (sent[slot] == 'o')
+            add_record(random, known, slot, other_type(random));
+        else if (sent[slot] == 'r')
+            add_record(random, known, slot, type++);
+        else
+            type++;
+    }
+}
+
+static bool known_differ(const struct known *known)
+{
+    enum { FLAG = 1, OF_THE_STATE = 10 };
+    uint64_t numbers[OF_THE_STATE + SLOTS] = {FLAG,          known->last,  known->first,     known->held,
+                                              known->last_count, known->others, known->last_type, known->number,
+                                              known->slots,  known->mag_slots};
+    size_t count = OF_THE_STATE;
+    for (unsigned slot = 0; slot < SLOTS; slot++)
+        if (known->slots >> slot & 1)
+            numbers[count++] = known->words[slot];
+    return all_differ(numbers, count);
+}
+
+static void make_known(struct random *random, struct known *known, unsigned slots)
+{
+    do
+        make_records(random, known, slots);
+    while (!known_differ(known));
+}
+
+/* ---- the structs byte by byte ----------------------------------------- */
+
+/* Places and sizes are those of include/lpmag.h, the least significant byte first as the
+ * machine has it. What isn't put is 0. */
+static void put(uint8_t *bytes, size_t at, size_t size, uint64_t number)
+{
+    for (size_t i = 0; i < size; i++)
+        bytes[at + i] = (uint8_t)(number >> 8 * i);
+}
+
+static void put_major(uint8_t *bytes, const struct known *known)
+{
+    put(bytes, 0, 8, known->number);
+    for (size_t slot = 0; slot < SLOTS; slot++) {
+        put(bytes, 8 + 2 * slot, 2, known->words[slot]);
+        put(bytes, 40 + slot, 1, known->ranges[slot]);
+    }
+    put(bytes, 56, 2, known->slots);
+    put(bytes, 58, 2, known->mag_slots);
+}
+
+static void put_state(uint8_t *bytes, const struct known *known)
+{
+    put(bytes, 0, 8, known->last);
+    put(bytes, 8, 1, 1);
+    put(bytes, 16, 8, known->first);
+    put(bytes, 24, 8, known->held);
+    put(bytes, 32, 8, known->last_count);
+    put(bytes, 40, 8, known->others);
+    put(bytes, 48, 1, known->last_type);
+    put_major(bytes + 56, known);
+}
+
+static void put_fields(uint8_t *bytes, const struct content *content)
+{
+    uint8_t type = content->code % 64;
+    put(bytes, 0, 4, content->count);
+    put(bytes, 4, 4, content->millisecond);
+    put(bytes, 8, 4, content->level);
+    put(bytes, 12, 4, content->quality);
+    put(bytes, 16, 2, content->day);
+    put(bytes, 18, 2, content->subcom);
+    for (size_t i = 0; i < 3; i++)
+        put(bytes, 20 + i, 1, content->flags[i]);
+    put(bytes, 23, 1, content->code);
+    put(bytes, 24, 1, type);
+    put(bytes, 25, 1, type <= 35 ? type : 64);
+    put(bytes, 26, 1, (content->level >> 23) % 256 != 255);
+    put(bytes, 27, 1, (content->quality >> 23) % 256 != 255);
+}
+
+static void put_closed(uint8_t *bytes, const struct known *known, bool major, bool accumulation)
+{
+    if (major) {
+        put_major(bytes, known);
+        put(bytes, 80, 1, 1);
+    }
+    if (accumulation) {
+        put(bytes, 64, 8, known->first);
+        put(bytes, 72, 8, known->held);
+        put(bytes, 81, 1, 1);
+    }
+}
+
+static void expect_report(struct drive *drive, struct reader *reader, const struct input *input, uint8_t gap,
+                          const struct known *known, bool major, bool accumulation)
+{
+    struct question question = {STEP, input->record, input->length, {{NULL, 0}}};
+    struct lpmag_report report = reader_report(reader);
+    uint8_t bytes[120] = {0};
+    put_fields(bytes, &input->content);
+    put(bytes, 28, 1, gap);
+    put_closed(bytes + 32, known, major, accumulation);
+    expect_bytes(drive, &question, "the report isn't what it has to be, byte by byte", &report, bytes,
+                 sizeof bytes);
+    drive->structs[BY_STEP]++;
+}
+
+static void expect_fed(struct drive *drive, struct reader *reader, size_t records, uint8_t answer,
+                       const struct known *known, bool major, bool accumulation)
+{
+    struct question question = {FEED, NULL, 0, {{"records", records}, {"answer", answer}}};
+    struct lpmag_fed fed = reader_fed(reader);
+    uint8_t bytes[104] = {0};
+    put(bytes, 0, 8, 472 * records);
+    put(bytes, 8, 1, answer);
+    put_closed(bytes + 16, known, major, accumulation);
+    expect_bytes(drive, &question, "what was fed isn't what it has to be, byte by byte", &fed, bytes,
+                 sizeof bytes);
+    drive->structs[BY_FEED]++;
+}
+
+static void expect_finished(struct drive *drive, struct reader *reader, const struct known *known)
+{
+    struct question question = {FINISH, NULL, 0, {{NULL, 0}}};
+    struct lpmag_closed closed = reader_closed(reader);
+    uint8_t bytes[88] = {0};
+    put_closed(bytes, known, true, true);
+    expect_bytes(drive, &question, "what was closed isn't what it has to be, byte by byte", &closed, bytes,
+                 sizeof bytes);
+    drive->structs[BY_FINISH]++;
+}
+
+static void expect_state(struct drive *drive, enum function function, struct reader *reader,
+                         const struct known *known)
+{
+    struct question question = {function, NULL, 0, {{NULL, 0}}};
+    uint8_t bytes[120] = {0};
+    put_state(bytes, known);
+    expect_bytes(drive, &question, "the state isn't what it has to be, byte by byte",
+                 room_of_struct(&reader->rooms[STATE], &reader->rooms[STATE].first), bytes, sizeof bytes);
+}
+
+/* ---- the three functions ---------------------------------------------- */
+
+/* What the next record closes: both, by a type that isn't above the last in the next
+ * major frame; the major frame alone, by an other frame there; the accumulation alone, by
+ * such a type in the last slot. */
+enum closing { BOTH, MAJOR_ALONE, ACCUMULATION_ALONE, CLOSINGS };
+
+static void make_closing(struct random *random, const struct known *known, enum closing closing,
+                         struct input *input)
+{
+    uint64_t next = SLOTS * (known->number + 1) + random_below(random, SLOTS);
+    uint8_t type = (uint8_t)random_between(random, 0, known->last_type);
+    make_input(random, input, closing == ACCUMULATION_ALONE ? known->last + 1 : next,
+               closing == MAJOR_ALONE ? other_type(random) : type);
+}
+
+static void compare_by_steps(struct drive *drive, const struct known *known, enum closing closing)
+{
+    static struct reader reader;
+    struct input input;
+    reader_make(&drive->random, &reader, &fresh);
+    for (size_t i = 0; i < known->records; i++) {
+        compare_step(drive, &reader, &known->inputs[i], LPMAG_OK);
+        expect_report(drive, &reader, &known->inputs[i], known->gaps[i], known, false, false);
+    }
+    expect_state(drive, STEP, &reader, known);
+    make_closing(&drive->random, known, closing, &input);
+    compare_step(drive, &reader, &input, LPMAG_OK);
+    expect_report(drive, &reader, &input, closing == MAJOR_ALONE ? LPMAG_NEITHER : LPMAG_OPENS, known,
+                  closing != ACCUMULATION_ALONE, closing != MAJOR_ALONE);
+}
+
+/* All at once; then a refused record, by any rule that feed can meet; then the closing one. */
+static void compare_by_feeding(struct drive *drive, const struct known *known, enum closing closing)
+{
+    static struct reader reader;
+    static struct row row;
+    struct random *random = &drive->random;
+    struct input input;
+    uint8_t rule = (uint8_t)random_between(random, GENERATE_FIRST_RULE + 1, GENERATE_LAST_RULE);
+    size_t before = random_below(random, (uint32_t)known->records + 1); /* fed by themselves */
+    row_clear(&row);
+    for (size_t i = 0; i < known->records; i++)
+        row_add(&row, &known->inputs[i], LPMAG_OK);
+    make_closing(random, known, closing, &input);
+    input_spoil(random, &input, rule);
+    row_add(&row, &input, rule);
+    make_closing(random, known, closing, &input);
+    row_add(&row, &input, LPMAG_OK);
+
+    reader_make(random, &reader, &fresh);
+    compare_feed(drive, &reader, &row, 0, LPMAG_RECORD * before);
+    expect_fed(drive, &reader, before, LPMAG_OK, known, false, false);
+    compare_feed(drive, &reader, &row, before, row_left(&row, before));
+    expect_fed(drive, &reader, known->records - before + 1, rule, known, false, false);
+    expect_state(drive, FEED, &reader, known);
+    compare_feed(drive, &reader, &row, known->records + 1, LPMAG_RECORD);
+    expect_fed(drive, &reader, 1, LPMAG_OK, known, closing != ACCUMULATION_ALONE, closing != MAJOR_ALONE);
+}
+
+/* From the state put together byte by byte. */
+static void compare_by_finishing(struct drive *drive, const struct known *known)
+{
+    static struct reader reader;
+    struct lpmag_state state;
+    uint8_t bytes[120] = {0};
+    put_state(bytes, known);
+    memcpy(&state, bytes, sizeof bytes);
+    reader_make(&drive->random, &reader, &state);
+    compare_finish(drive, &reader, LPMAG_OK);
+    expect_finished(drive, &reader, known);
+}
+
+static void compare_fields(struct drive *drive)
+{
+    static struct known known;
+    begin(drive, "structs in which every field has a value of its own");
+    for (unsigned i = 0; i < 300; i++) {
+        enum closing closing = (enum closing)(i % CLOSINGS);
+        make_known(&drive->random, &known, closing == ACCUMULATION_ALONE ? SLOTS - 1 : SLOTS);
+        compare_by_steps(drive, &known, closing);
+        compare_by_feeding(drive, &known, closing);
+        compare_by_finishing(drive, &known);
+    }
+}
+
+void drive_structs(struct drive *drive)
+{
+    compare_flags(drive);
+    compare_spares(drive);
+    compare_fields(drive);
+}

@@ -1,3 +1,0 @@
-pub mod Hands
-pub mod Asked
-pub mod Single

@@ -1,0 +1,99 @@
+// The reader, for C: the state and the report are structs, lent. include/lpmag.h documents each function.
+ghost use Rattle.reader.specs.Buffers.{buffers};
+ghost use Rattle.calls.specs.Reading.{back, backClosed, StepGiven, FinishGiven};
+ghost use Rattle.calls.specs.Feeding.{backFed, FeedGiven};
+use shapes::CClosed;
+use shapes::CFed;
+use shapes::CReport;
+use shapes::CState;
+
+#[no_mangle]
+pub extern "C" fn lpmag_step(
+    state: &mut CState,
+    report: &mut CReport,
+    open_cells: &mut [u8],
+    finished_cells: &mut [u8],
+    open_samples: &mut [i16],
+    finished_samples: &mut [i16],
+    r: &[u8],
+) -> u8
+    ensures { λ n. ⌜ StepGiven (now (state .entry)) (now (report .entry))
+        (buffers (now («open_cells» .entry)) (now («finished_cells» .entry)) (now («open_samples» .entry)) (now («finished_samples» .entry)))
+        (now (r .entry)) (back n (now (state .exit)) (now (report .exit)))
+        (buffers (now («open_cells» .exit)) (now («finished_cells» .exit)) (now («open_samples» .exit)) (now («finished_samples» .exit))) ⌝ }
+{
+    let y = calls::step(
+        *state,
+        *report,
+        open_cells,
+        finished_cells,
+        open_samples,
+        finished_samples,
+        r,
+    );
+    if y.answer == 0 {
+        *state = y.state;
+        *report = y.report;
+    }
+    y.answer
+}
+
+#[no_mangle]
+pub extern "C" fn lpmag_feed(
+    state: &mut CState,
+    fed: &mut CFed,
+    open_cells: &mut [u8],
+    finished_cells: &mut [u8],
+    open_samples: &mut [i16],
+    finished_samples: &mut [i16],
+    bytes: &[u8],
+) -> u8
+    ensures { λ n. ⌜ FeedGiven (now (state .entry)) (now (fed .entry))
+        (buffers (now («open_cells» .entry)) (now («finished_cells» .entry)) (now («open_samples» .entry)) (now («finished_samples» .entry)))
+        (now (bytes .entry)) (backFed n (now (state .exit)) (now (fed .exit)))
+        (buffers (now («open_cells» .exit)) (now («finished_cells» .exit)) (now («open_samples» .exit)) (now («finished_samples» .exit))) ⌝ }
+{
+    let y = calls::feed(
+        *state,
+        *fed,
+        open_cells,
+        finished_cells,
+        open_samples,
+        finished_samples,
+        bytes,
+    );
+    if y.answer == 0 {
+        *state = y.state;
+        *fed = y.fed;
+    }
+    y.answer
+}
+
+#[no_mangle]
+pub extern "C" fn lpmag_finish(
+    state: &mut CState,
+    closed: &mut CClosed,
+    open_cells: &mut [u8],
+    finished_cells: &mut [u8],
+    open_samples: &mut [i16],
+    finished_samples: &mut [i16],
+) -> u8
+    ensures { λ n. ⌜ FinishGiven (now (state .entry)) (now (closed .entry))
+        (buffers (now («open_cells» .entry)) (now («finished_cells» .entry)) (now («open_samples» .entry)) (now («finished_samples» .entry)))
+        (backClosed n (now (state .exit)) (now (closed .exit)))
+        (buffers (now («open_cells» .exit)) (now («finished_cells» .exit)) (now («open_samples» .exit)) (now («finished_samples» .exit))) ⌝ }
+{
+    let y = calls::finish(
+        *state,
+        *closed,
+        open_cells,
+        finished_cells,
+        open_samples,
+        finished_samples,
+    );
+    if y.answer == 0 {
+        *state = y.state;
+        *closed = y.closed;
+    }
+    y.answer
+}

@@ -1,0 +1,74 @@
+// Many records a call.
+ghost use mathlib.Core.Path.{_≡_};
+ghost use Rattle.reader.specs.Buffers.{buffers};
+ghost use Rattle.calls.specs.Feeding.{readyBy, FeedGiven};
+use shapes::CFed;
+use shapes::CState;
+use shapes::fed_out;
+use shapes::is_state;
+use shapes::state_in;
+use shapes::state_out;
+use state::listed;
+
+// The answer to the call, and the state and the report after it.
+pub struct CFeeding {
+    pub answer: u8,
+    pub state: CState,
+    pub fed: CFed,
+}
+
+// Rule 1: is it a state that passes the list, and are the buffers of their sizes?
+fn is_ready(state: CState, sized: bool) -> bool
+    ensures { λ b. ⌜ b ≡ readyBy state sized ⌝ }
+{
+    if !is_state(state) {
+        return false;
+    }
+    if !sized {
+        return false;
+    }
+    listed(state_in(state))
+}
+
+pub fn feed(
+    state: CState,
+    fed: CFed,
+    open_cells: &mut [u8],
+    finished_cells: &mut [u8],
+    open_samples: &mut [i16],
+    finished_samples: &mut [i16],
+    bytes: &[u8],
+) -> CFeeding
+    ensures { λ y. ⌜ FeedGiven state fed
+        (buffers (now («open_cells» .entry)) (now («finished_cells» .entry)) (now («open_samples» .entry)) (now («finished_samples» .entry)))
+        (now (bytes .entry)) y
+        (buffers (now («open_cells» .exit)) (now («finished_cells» .exit)) (now («open_samples» .exit)) (now («finished_samples» .exit))) ⌝ }
+{
+    let sized = reader::right_sizes(
+        open_cells.len(),
+        finished_cells.len(),
+        open_samples.len(),
+        finished_samples.len(),
+    );
+    if !is_ready(state, sized) {
+        return CFeeding {
+            answer: 1,
+            state: state,
+            fed: fed,
+        };
+    }
+    let x = feed::feed(
+        state_in(state),
+        open_cells,
+        finished_cells,
+        open_samples,
+        finished_samples,
+        bytes,
+        0,
+    );
+    CFeeding {
+        answer: 0,
+        state: state_out(x.state),
+        fed: fed_out(x),
+    }
+}

@@ -1,0 +1,6 @@
+pub mod Structs
+pub mod Reading
+pub mod Ending
+pub mod Filling
+pub mod Asking
+pub mod Seeking

@@ -1,0 +1,32 @@
+-- `record::frame::kind_number` meets its contract.
+-- Assumes nothing.
+use mathlib.Core.Path.{sym, ap}
+use Rattle.record.specs.Frame.{kindNumber}
+use borrow.Author.Needs.{needs}
+use Rattle.record.proofs.frame.kind_number.Statement.{statement}
+use Rattle.record.proofs.frame.kind_number.Tie as tie
+
+enum-known-kind : tie.Need-enum-known-kind
+enum-known-kind c = search needs
+
+enum-told : tie.Need-enum-told
+enum-told c = search needs
+
+enum-told-2 : tie.Need-enum-told-2
+enum-told-2 c = search needs
+
+returns : tie.Need-returns
+unfolding kindNumber
+returns c = sym (ap kindNumber (c .before .kind .given .1))
+
+returns-2 : tie.Need-returns-2
+unfolding kindNumber
+returns-2 c = sym (ap kindNumber (c .enum-told .given .1))
+
+returns-3 : tie.Need-returns-3
+unfolding kindNumber
+returns-3 c = sym (ap kindNumber (c .enum-told2 .given .1))
+
+pub kind-number-spec : {M : Type 1} → statement M
+kind-number-spec =
+    tie.close (tie.spec enum-known-kind enum-told enum-told-2 returns returns-2 returns-3)

@@ -1,0 +1,24 @@
+-- `shapes::states::state_in` meets its contract.
+-- Assumes nothing.
+use lib.Dec.{eqb}
+use borrow.Author.Needs.{needs}
+use Rattle.shapes.proofs.states.state_in.Statement.{statement}
+use Rattle.shapes.proofs.states.state_in.Tie as tie
+
+accumulation-in-requires : tie.Need-accumulation-in-requires
+accumulation-in-requires c κs = search needs
+
+major-in-requires : tie.Need-major-in-requires
+major-in-requires c κs = search needs
+
+returns : tie.Need-returns
+returns c =
+    let k = c .before .before .before .args .c in
+    λ i. record {
+      clock = record { any = eqb (k .any) 1; last = k .last };
+      accumulation = c .before .accumulation-in .ensures i;
+      major = c .major-in .ensures i;
+    }
+
+pub state-in-spec : {M : Type 1} → statement M
+state-in-spec = tie.close (tie.spec accumulation-in-requires major-in-requires returns)

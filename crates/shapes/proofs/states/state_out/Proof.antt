@@ -1,0 +1,31 @@
+-- `shapes::states::state_out` meets its contract.
+-- Assumes nothing.
+use borrow.Author.Needs.{needs}
+use Rattle.shapes.proofs.states.state_out.Statement.{statement}
+use Rattle.shapes.proofs.states.state_out.Tie as tie
+
+flag-of-requires : tie.Need-flag-of-requires
+flag-of-requires c κs = search needs
+
+accumulation-out-requires : tie.Need-accumulation-out-requires
+accumulation-out-requires c κs = search needs
+
+major-out-requires : tie.Need-major-out-requires
+major-out-requires c κs = search needs
+
+returns : tie.Need-returns
+returns c =
+    let s = c .before .before .before .before .args .s in
+    λ i. record {
+      last = s .clock .last;
+      any = c .before .before .flag-of .ensures i;
+      spare8 = 0;
+      spare16 = 0;
+      spare32 = 0;
+      accumulation = c .before .accumulation-out .ensures i;
+      major = c .major-out .ensures i;
+    }
+
+pub state-out-spec : {M : Type 1} → statement M
+state-out-spec =
+    tie.close (tie.spec flag-of-requires accumulation-out-requires major-out-requires returns)

@@ -1,0 +1,37 @@
+-- What a call closed, and the reports, as C has them (include/lpmag.h, "structs").
+-- Assumes nothing.
+use Prim.Native.Nat.{ℕ}
+use Rattle.accumulation.specs.declared.Gap.{Gap}
+use Rattle.accumulation.specs.declared.Gap.the-variants.{Opens, Joins, Neither}
+use Rattle.state.specs.declared.closed.Closed.{Closed}
+use Rattle.state.specs.declared.deciding.Taken.{Taken}
+use Rattle.feed.specs.declared.feeding.Fed.{Fed}
+use Rattle.shapes.specs.Frames.{flag, majorOut}
+use Rattle.shapes.specs.Fields.{fieldsOut}
+use Rattle.shapes.specs.declared.closed.CClosed.{CClosed}
+use Rattle.shapes.specs.declared.closed.CReport.{CReport}
+use Rattle.shapes.specs.declared.closed.CFed.{CFed}
+
+-- LPMAG_OPENS, LPMAG_JOINS, LPMAG_NEITHER
+unfoldable pub gapNumber : Gap → ℕ
+gapNumber Opens = 0
+gapNumber Joins = 1
+gapNumber Neither = 2
+
+abbrev pub closedOut : Closed → CClosed
+closedOut c = record {
+  major = majorOut (c .major .frame);
+  «accumulation_first» = c .accumulation .first;
+  «accumulation_held» = c .accumulation .held;
+  «major_closed» = flag (c .major .closed);
+  «accumulation_closed» = flag (c .accumulation .closed);
+  spare16 = 0;
+  spare32 = 0;
+}
+
+abbrev pub reportOut : Taken → Closed → CReport
+reportOut t c = record { fields = fieldsOut (t .fields); gap = gapNumber (t .gap); spare8 = 0; spare16 = 0; closed = closedOut c }
+
+-- fed from place 0 on: where the next record begins is how many bytes were taken
+abbrev pub fedOut : Fed → CFed
+fedOut f = record { taken = f .at; answer = f .rule; spare8 = 0; spare16 = 0; spare32 = 0; closed = closedOut (f .closed) }

@@ -1,0 +1,4 @@
+pub mod Frames
+pub mod States
+pub mod Fields
+pub mod Closed
