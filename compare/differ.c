@@ -188,8 +188,8 @@ static size_t first_difference(const uint8_t *one, const uint8_t *other)
     return at;
 }
 
-void expect_bytes(struct drive *drive, const struct question *question, const char *what,
-                  const void *found, const void *expected, size_t length)
+void expect_bytes(struct drive *drive, const struct question *question, const char *what, const void *found,
+                  const void *expected, size_t length)
 {
     if (memcmp(found, expected, length) == 0)
         return;

@@ -156,10 +156,10 @@ struct drive {
     uint64_t structs[CALLS];               /* told, with all fields known and different */
 
     /* And of what is fed. */
-    uint64_t fed[14];               /* feeds of answer 0 that took a record, by what it was answered */
-    uint64_t fed_taken[GIVEN];      /* feeds of answer 0, by the records taken */
-    uint64_t fed_left[2][GIVEN];    /* by whether a part of a record is left, and by the records left */
-    uint64_t fed_broken[2][GIVEN];  /* refused for a size or for the state, by the records given */
+    uint64_t fed[14];                  /* feeds of answer 0 that took a record, by what it was answered */
+    uint64_t fed_taken[GIVEN];         /* feeds of answer 0, by the records taken */
+    uint64_t fed_left[2][GIVEN];       /* by whether a part of a record is left, and by the records left */
+    uint64_t fed_broken[2][GIVEN];     /* refused for a size or for the state, by the records given */
     uint64_t fed_lengths[3 * 472 + 2]; /* given, up to three records and a byte */
 
     /* And of streams sent in order. */
@@ -193,15 +193,16 @@ void same_answer(struct drive *drive, const struct question *question, uint64_t 
 
 /* Compares what was lent for it, which has to be as found if `kept`. */
 void same_rooms(struct drive *drive, const struct question *question, const struct rooms *rooms, bool kept);
-void same_ranges(struct drive *drive, const struct question *question, const struct ranges *ranges, bool kept);
+void same_ranges(struct drive *drive, const struct question *question, const struct ranges *ranges,
+                 bool kept);
 
 /* What both agree on is held against what the papers, or the way the input was
  * made, tell of it: an error that both make shows there. */
 void expect_answer(struct drive *drive, const struct question *question, uint64_t answer, uint64_t expected);
 void expect_range(struct drive *drive, const struct question *question, const struct ranges *ranges,
                   uint64_t low, uint64_t high);
-void expect_bytes(struct drive *drive, const struct question *question, const char *what,
-                  const void *found, const void *expected, size_t length);
+void expect_bytes(struct drive *drive, const struct question *question, const char *what, const void *found,
+                  const void *expected, size_t length);
 
 /* The subjects. */
 void drive_words(struct drive *drive);

@@ -13,7 +13,8 @@
 static void make_quiet(struct random *random, struct row *row)
 {
     struct input input;
-    uint64_t first = SLOTS * random_below(random, (uint32_t)(COUNTS / SLOTS)) + random_below(random, SLOTS - 4);
+    uint64_t first =
+        SLOTS * random_below(random, (uint32_t)(COUNTS / SLOTS)) + random_below(random, SLOTS - 4);
     uint8_t type = (uint8_t)random_below(random, TYPES - 4);
     row_clear(row);
     for (uint8_t i = 0; i < 4; i++) {
@@ -65,7 +66,8 @@ static void compare_refused_at(struct drive *drive, unsigned rule, uint32_t form
     for (unsigned i = 0; i < place + 3; i++) {
         uint8_t type = random_once_in(random, 4) ? (uint8_t)random_below(random, TYPES) : other_type(random);
         if (i == place) {
-            input_make(random, &input, rule == 12 ? random_between(random, 0, (uint32_t)last) : last + 1, type);
+            input_make(random, &input, rule == 12 ? random_between(random, 0, (uint32_t)last) : last + 1,
+                       type);
             if (rule <= GENERATE_LAST_RULE)
                 spoil_form(random, input.record, rule, form);
             row_add(&row, &input, (uint8_t)rule);
@@ -160,7 +162,8 @@ void drive_feed(struct drive *drive)
 {
     compare_lengths(drive);
     compare_refused(drive);
-    begin(drive, "feed on streams of any types and counts, in parts of any length, steps and finishes between");
+    begin(drive,
+          "feed on streams of any types and counts, in parts of any length, steps and finishes between");
     for (unsigned i = 0; i < 250; i++)
         compare_stream(drive);
 }

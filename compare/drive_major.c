@@ -124,8 +124,8 @@ static void compare_major_field(struct drive *drive, const struct asked *asked, 
     if (first == LPMAG_OK) {
         float field;
         lpmag_field(asked->made_samples[54 * slot + number], asked->made.ranges[slot], &field);
-        expect_bytes(drive, &question, "the field isn't that of the sample and the range",
-                     first_field, &field, sizeof field);
+        expect_bytes(drive, &question, "the field isn't that of the sample and the range", first_field,
+                     &field, sizeof field);
     }
     drive->answers[MAJOR_FIELD][first]++;
 }

@@ -36,8 +36,8 @@ static struct expected expected_sample(const uint8_t *cells, size_t length, uint
     return expected_counts(cells[cell], scaled(cells, bin) ? 8 : 1);
 }
 
-static void compare_sample(struct drive *drive, const uint8_t *cells, size_t length, uint64_t held, size_t bin,
-                           size_t number, size_t angle)
+static void compare_sample(struct drive *drive, const uint8_t *cells, size_t length, uint64_t held,
+                           size_t bin, size_t number, size_t angle)
 {
     struct question question = {
         ELECTRON_SAMPLE, cells, length, {{"held", held}, {"bin", bin}, {"number", number}, {"angle", angle}}};
@@ -87,7 +87,8 @@ static void compare_total_and_rate(struct drive *drive, const uint8_t *cells, si
     ranges_make(&ranges, &drive->random);
     uint8_t first = lpmag_total(cells, length, held, &ranges.first[LOW], &ranges.first[HIGH]);
     uint8_t second = second_total(cells, length, held, &ranges.second[LOW], &ranges.second[HIGH]);
-    compare_counts(drive, &question, &ranges, first, second, expected_cell(cells, length, held, TOTAL_AT, 16));
+    compare_counts(drive, &question, &ranges, first, second,
+                   expected_cell(cells, length, held, TOTAL_AT, 16));
 
     question.function = RATE;
     ranges_make(&ranges, &drive->random);

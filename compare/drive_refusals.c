@@ -72,7 +72,7 @@ static void compare_sizes(struct drive *drive)
 static void compare_sizes_exchanged(struct drive *drive)
 {
     static const size_t sizes[] = {
-        LPMAG_CELLS,  LPMAG_FRAME,  LPMAG_FRAME * sizeof(int16_t), LPMAG_RECORD,
+        LPMAG_CELLS,  LPMAG_FRAME,   LPMAG_FRAME * sizeof(int16_t), LPMAG_RECORD,
         LPMAG_PACKET, LPMAG_SAMPLES, sizeof(struct lpmag_state),    sizeof(struct lpmag_fed),
     };
     static struct reader reader;

@@ -119,8 +119,8 @@ static void take_accumulation(struct drive *drive, struct stream *stream, enum f
                     "an accumulation holds only frames that were kept, type", type);
         struct sent *sent = &stream->sent[which];
         expect_true(drive, function, sent >= start, "no frame comes before the first, type", type);
-        lay_expected(sent->input.content.code,
-                     sent->input.record + LPMAG_PACKET_AT + LPMAG_SCIENCE_AT, expected);
+        lay_expected(sent->input.content.code, sent->input.record + LPMAG_PACKET_AT + LPMAG_SCIENCE_AT,
+                     expected);
         sent->in_cells++;
         sent->accumulation = stream->accumulations;
     }
@@ -161,8 +161,8 @@ static void take_major(struct drive *drive, struct stream *stream, enum function
         if (held)
             sent->in_slots++;
     }
-    expect_bytes(drive, &question, "the samples handed out aren't those of the slots held",
-                 samples, expected, sizeof expected);
+    expect_bytes(drive, &question, "the samples handed out aren't those of the slots held", samples, expected,
+                 sizeof expected);
     stream->slots += ones(major->slots);
     stream->samples += ones(major->mag_slots) * LPMAG_SAMPLES;
     if (major->slots == 0xFFFF)
@@ -233,8 +233,7 @@ static void compare_refused(struct drive *drive, struct reader *reader, const st
     if (rule <= GENERATE_LAST_RULE) {
         input_spoil(&drive->random, &input, rule);
         compare_step(drive, reader, &input, (uint8_t)rule);
-    } else if (sent_before != NULL && reader->state.any &&
-               sent_before->content.count <= reader->state.last) {
+    } else if (sent_before != NULL && reader->state.any && sent_before->content.count <= reader->state.last) {
         compare_step(drive, reader, sent_before, 12);
     }
 }

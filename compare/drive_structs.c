@@ -122,20 +122,19 @@ static void add_record(struct random *random, struct known *known, unsigned slot
     struct input *input = &known->inputs[known->records];
     uint64_t count = SLOTS * known->number + slot;
     bool real_time = type < TYPES;
+    bool first = known->held == 0;
     make_input(random, input, count, type);
-    known->gaps[known->records++] = !real_time         ? LPMAG_NEITHER
-                                    : known->held == 0 ? LPMAG_OPENS
-                                                       : LPMAG_JOINS;
+    known->gaps[known->records++] = !real_time ? LPMAG_NEITHER : first ? LPMAG_OPENS : LPMAG_JOINS;
     known->slots |= (uint16_t)(1u << slot);
     known->words[slot] = input->content.subcom;
     known->last = count;
-    known->others += !real_time && known->held != 0;
+    known->others += !real_time && !first;
     if (real_time) {
         uint8_t *status = &input->record[LPMAG_PACKET_AT + LPMAG_MAG_AT];
         *status = (uint8_t)((*status & 0xF8) + (3 * slot + 5) % 8); /* neighbours differ */
         known->mag_slots |= (uint16_t)(1u << slot);
         known->ranges[slot] = *status & 7;
-        known->first = known->held == 0 ? count : known->first;
+        known->first = first ? count : known->first;
         known->held |= (uint64_t)1 << type;
         known->last_type = type;
         known->last_count = count;
@@ -161,9 +160,9 @@ static void make_records(struct random *random, struct known *known, unsigned sl
 static bool known_differ(const struct known *known)
 {
     enum { FLAG = 1, OF_THE_STATE = 10 };
-    uint64_t numbers[OF_THE_STATE + SLOTS] = {FLAG,          known->last,  known->first,     known->held,
-                                              known->last_count, known->others, known->last_type, known->number,
-                                              known->slots,  known->mag_slots};
+    uint64_t numbers[OF_THE_STATE + SLOTS] = {
+        FLAG,          known->last,      known->first,  known->held,  known->last_count,
+        known->others, known->last_type, known->number, known->slots, known->mag_slots};
     size_t count = OF_THE_STATE;
     for (unsigned slot = 0; slot < SLOTS; slot++)
         if (known->slots >> slot & 1)
@@ -242,6 +241,22 @@ static void put_closed(uint8_t *bytes, const struct known *known, bool major, bo
     }
 }
 
+/* The fields alone, of a record that was made. */
+static void compare_fields_of(struct drive *drive, const struct input *input)
+{
+    struct question question = {FIELDS, input->record, input->length, {{NULL, 0}}};
+    struct lpmag_fields first = {0};
+    struct lpmag_fields second = {0};
+    uint8_t bytes[28] = {0};
+    put_fields(bytes, &input->content);
+    same_answer(drive, &question, lpmag_fields(&first, input->record, input->length),
+                second_fields(&second, input->record, input->length));
+    expect_bytes(drive, &question, "the second's fields aren't what they have to be, byte by byte", &second,
+                 bytes, sizeof bytes);
+    expect_bytes(drive, &question, "the fields aren't what they have to be, byte by byte", &first, bytes,
+                 sizeof bytes);
+}
+
 static void expect_report(struct drive *drive, struct reader *reader, const struct input *input, uint8_t gap,
                           const struct known *known, bool major, bool accumulation)
 {
@@ -313,6 +328,7 @@ static void compare_by_steps(struct drive *drive, const struct known *known, enu
     struct input input;
     reader_make(&drive->random, &reader, &fresh);
     for (size_t i = 0; i < known->records; i++) {
+        compare_fields_of(drive, &known->inputs[i]);
         compare_step(drive, &reader, &known->inputs[i], LPMAG_OK);
         expect_report(drive, &reader, &known->inputs[i], known->gaps[i], known, false, false);
     }

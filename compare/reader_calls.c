@@ -112,8 +112,8 @@ static void expect_rooms(struct drive *drive, const struct question *question, s
         [STATE] = "the state isn't what it has to be after the call",
     };
     for (enum lent_room room = 0; room < TOLD; room++)
-        expect_bytes(drive, question, wrong[room], bytes_of(reader, room, FIRSTS),
-                     reader_found(reader, room), reader->rooms[room].length);
+        expect_bytes(drive, question, wrong[room], bytes_of(reader, room, FIRSTS), reader_found(reader, room),
+                     reader->rooms[room].length);
 }
 
 struct lpmag_report reader_report(struct reader *reader)
@@ -142,8 +142,7 @@ struct lpmag_closed reader_closed(struct reader *reader)
 void compare_step(struct drive *drive, struct reader *reader, const struct input *input, uint8_t expected)
 {
     const uint8_t *record = lend_bytes(&drive->random, input->record, input->length);
-    struct question question =
-        ask(drive, reader, STEP, record, input->length, sizeof(struct lpmag_report));
+    struct question question = ask(drive, reader, STEP, record, input->length, sizeof(struct lpmag_report));
     uint8_t first = call_step(lpmag_step, reader, FIRSTS, record, input->length);
     uint8_t second = call_step(second_step, reader, SECONDS, record, input->length);
     same_calls(drive, &question, reader, first, second, input->record);
@@ -153,8 +152,8 @@ void compare_step(struct drive *drive, struct reader *reader, const struct input
     if (first == LPMAG_OK) {
         drive->fresh[BY_STEP] += !reader->state.any;
         struct lpmag_report report = expected_report(drive, reader, input);
-        expect_bytes(drive, &question, "the report isn't what it has to be",
-                     struct_of(reader, TOLD, FIRSTS), &report, sizeof report);
+        expect_bytes(drive, &question, "the report isn't what it has to be", struct_of(reader, TOLD, FIRSTS),
+                     &report, sizeof report);
         expect_rooms(drive, &question, reader);
         drive->fates[report.gap]++;
         drive->closed[BY_STEP][report.closed.major_closed][report.closed.accumulation_closed]++;

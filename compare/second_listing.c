@@ -80,8 +80,8 @@ void second_listing_record(struct second_listing *listing, const uint8_t *record
 {
     struct lpmag_report report = {0};
     uint8_t refusal = second_step(&listing->state, &report, listing->open_cells, SECOND_CELLS,
-                                  listing->finished_cells, SECOND_CELLS, listing->open_samples,
-                                  SECOND_FRAME, listing->finished_samples, SECOND_FRAME, record, length);
+                                  listing->finished_cells, SECOND_CELLS, listing->open_samples, SECOND_FRAME,
+                                  listing->finished_samples, SECOND_FRAME, record, length);
     if (refusal == LPMAG_OK)
         print_closed(&report.closed);
     else if (listing->telling)

@@ -1,12 +1,11 @@
 -- The words for a number, from where they end with their byte of 0.
 -- Assumes nothing.
-use mathlib.Core.Path.{_≡_, refl, ap, subst, _∙_}
+use mathlib.Core.Path.{_≡_, refl}
 use mathlib.Core.Bool.{Bool, true, false, cond}
 use mathlib.Core.List.{List, [], _∷_}
 use Prim.Native.Nat.{ℕ, _+_, _-_}
 use native.Mathlib.Omega.{arith}
 use lib.ListN.{length, length-append}
-use Rattle.buffers.specs.Laying.{patch}
 use Rattle.listing.specs.Text.{Written}
 use Rattle.listing.specs.Refusals.{wordsOf, meaning, meaningSize}
 use Rattle.c_records.specs.Records.{roomy, WordsGiven}

@@ -6,16 +6,16 @@ use mathlib.Core.List.{List}
 use mathlib.Core.Path.{_≡_, refl, sym, ap, _∙_}
 use lib.Dec.{eqb}
 use Rattle.state.specs.Deciding.{Input, numberOf, decidedOf, answerNumber, fieldsOf, countAt, magRange, acceptance, refusal}
-use Rattle.state.specs.Ending.{endNumber, endedOf, endingNumber}
+use Rattle.state.specs.Ending.{endingNumber}
 use Rattle.state.specs.declared.deciding.Answer.{Answer}
 use Rattle.state.specs.declared.deciding.Answer.the-variants.{Refused, Accepted}
 use Rattle.state.specs.declared.deciding.Stepped.{Stepped}
 use Rattle.state.specs.declared.ending.Ending.{Ending}
 use Rattle.state.specs.declared.ending.Ending.the-variants as ending
 use Rattle.state.specs.declared.ending.Finished.{Finished}
-use Rattle.reader.specs.Buffers.{Buffers, sized}
-use Rattle.reader.specs.Steps.{input, stepped, ended, StepIs, FinishIs}
-use Rattle.feed.specs.Feeding.{begun, desk, feedAll, FeedIs}
+use Rattle.reader.specs.Buffers.{Buffers}
+use Rattle.reader.specs.Steps.{input, StepIs, FinishIs}
+use Rattle.feed.specs.Feeding.{FeedIs}
 use Rattle.feed.specs.declared.feeding.Fed.{Fed}
 use Rattle.shapes.specs.States.{isState, stateIn, stateOut}
 use Rattle.shapes.specs.Closed.{fedOut}
@@ -25,7 +25,7 @@ use Rattle.shapes.specs.declared.closed.CReport.{CReport}
 use Rattle.shapes.specs.declared.closed.CFed.{CFed}
 use Rattle.calls.specs.Reading.{back, backClosed, handedBy, handed, handedEnd, handedClosed, StepGiven, FinishGiven}
 use Rattle.calls.specs.Handing.{notZero, numbered, handedAs}
-use Rattle.calls.specs.Feeding.{readyBy, ready, fedFrom, backFed, handedFed, FeedGiven}
+use Rattle.calls.specs.Feeding.{ready, backFed, FeedGiven}
 use Rattle.calls.specs.declared.stepping.CStepped.{CStepped}
 use Rattle.calls.specs.declared.stepping.CFinished.{CFinished}
 

@@ -3,7 +3,7 @@
 use Prim.Native.Nat.{ℕ}
 use mathlib.Core.Bool.{Bool, true, false, cond, _&&_}
 use mathlib.Core.List.{List, []}
-use mathlib.Core.Path.{_≡_, refl, sym, ap, _∙_}
+use mathlib.Core.Path.{_≡_, sym, ap, _∙_}
 use lib.Ieee.{Float}
 use lib.IntN.{ℤ}
 use borrow.Author.Tests.{ne-eqb}
@@ -13,13 +13,12 @@ use Rattle.record.specs.Rules.{broken}
 use Rattle.record.specs.Contents.{recordOf}
 use Rattle.shapes.specs.Fields.{fieldsOut}
 use Rattle.state.specs.Deciding.{numberOf, decidedOf, refusal}
-use Rattle.state.specs.Ending.{endNumber, endedOf, ending, unended}
+use Rattle.state.specs.Ending.{endedOf, ending, unended}
 use Rattle.state.specs.List.{listed}
 use Rattle.state.specs.declared.deciding.Decided.{Decided}
-use Rattle.state.specs.declared.ending.Ended.{Ended}
 use Rattle.state.proofs.Numbers.{refused-is}
 use Rattle.reader.specs.Buffers.{Buffers, sized, worked}
-use Rattle.reader.specs.Steps.{input, stepped, ended}
+use Rattle.reader.specs.Steps.{input, stepped}
 use Rattle.shapes.specs.States.{isState, stateIn}
 use Rattle.shapes.specs.declared.fields.CFields.{CFields}
 use Rattle.shapes.specs.declared.frames.CMajor.{CMajor}

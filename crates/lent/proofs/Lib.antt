@@ -1,4 +1,6 @@
 pub mod Structs
+pub mod Borrows
+pub mod Kit
 pub mod Reading
 pub mod Ending
 pub mod Filling

@@ -2,11 +2,11 @@
 -- Assumes nothing.
 use mathlib.Core.Path.{_≡_, subst}
 use mathlib.Core.Bool.{not}
-use Prim.Native.Nat.{ℕ}
+use Prim.Native.Nat.{ℕ, _<_, _^_}
 use mathlib.Core.List.{[], _∷_, List}
 use lib.Dec.{T, eqb}
-use mir.Syntax.{Sym, Ty, Local, local}
-use mir.Val.{Val}
+use mir.Syntax.{Sym, Ty, Width, Local, local}
+use mir.Val.{Val, Fits, bits}
 use denote.Exit.{Kept, left}
 use denote.RattleType.{RattleType}
 use denote.Signature.{Slot}
@@ -18,6 +18,13 @@ use denote.Struct.Record as made
 use denote.Struct.Struct.{Plains, layout}
 use denote.Struct.Values.{Values}
 use denote.Triple.Walked.{Stay}
+
+abbrev pub also {ℓ ℓ′} : {A : Type ℓ} {B : Type ℓ′} → A → B → A × B
+also x y = (x, y)
+
+-- a number of a width, as the machine has it
+abbrev pub fit : {w : Width} {n : ℕ} → n < 2 ^ bits w → Fits w n
+fit h = record { fits = h }
 
 -- a declared struct, with what rattle proves of it
 pub record Lent : Type 2 where

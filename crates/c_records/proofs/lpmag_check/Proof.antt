@@ -26,5 +26,4 @@ returns-2 c =
     refused-told (now (k .before .before .args .r)) (k .check .result) (k .check .ensures) _ (c .before .verdict .given .1)
 
 pub lpmag-check-spec : {M : Type 1} → statement M
-lpmag-check-spec =
-    tie.close (tie.spec check-requires enum-told enum-known-verdict returns returns-2)
+lpmag-check-spec = tie.close (tie.spec check-requires enum-told enum-known-verdict returns returns-2)

@@ -50,13 +50,4 @@ returns-3 c =
     given-in packetSize (packetBytes r) r (now (a .room)) h (sym z) _ (c .before .before .copy .ensures ∙ rw (eq-eqb _ _ l) e)
 
 pub lpmag-packet-spec : {M : Type 1} → statement M
-lpmag-packet-spec =
-    tie.close
-    (tie.spec
-    returns
-    lpmag-check-requires
-    returns-2
-    packet-requires
-    copy-requires
-    same-length
-    returns-3)
+lpmag-packet-spec = tie.close (tie.spec returns lpmag-check-requires returns-2 packet-requires copy-requires same-length returns-3)

@@ -31,6 +31,4 @@ returns-2 c =
     meant (a .number) (now (a .room)) _ _ (p .put-meaning .ensures) (c .if1 .left)
 
 pub lpmag-refusal-words-spec : {M : Type 1} → statement M
-lpmag-refusal-words-spec =
-    tie.close
-    (tie.spec put-meaning-requires same-length returns sub-result same-length-2 returns-2)
+lpmag-refusal-words-spec = tie.close (tie.spec put-meaning-requires same-length returns sub-result same-length-2 returns-2)

@@ -2,7 +2,7 @@
 -- Assumes nothing.
 use mathlib.Core.Path.{refl, sym, ap, _∙_}
 use denote.Ref.{now}
-use borrow.Author.Tests.{eq-eqb, ne-eqb}
+use borrow.Author.Tests.{ne-eqb}
 use Rattle.shapes.specs.Fields.{fieldsOut}
 use Rattle.record.proofs.Told.{fields-told, number-told}
 use borrow.Author.Needs.{needs}
@@ -36,12 +36,4 @@ returns-2 c =
     record { number = t .0; written = rw (ne-eqb _ 0 (λ z. t .1 (t .0 ∙ z))) refl }
 
 pub fields-spec : {M : Type 1} → statement M
-fields-spec =
-    tie.close
-    (tie.spec
-    fields-requires
-    enum-known-contents
-    fields-out-requires
-    enum-known-contents-2
-    returns
-    returns-2)
+fields-spec = tie.close (tie.spec fields-requires enum-known-contents fields-out-requires enum-known-contents-2 returns returns-2)

@@ -18,7 +18,8 @@ returns : tie.Need-returns
 returns c =
     let k = c .before in
     let a = k .before .before .before .before .before .args in
-    feed-unread (a .state) (buffers (now (a .open-cells)) (now (a .finished-cells)) (now (a .open-samples)) (now (a .finished-samples))) (a .fed) (now (a .bytes)) (fails (rw (k .before .right-sizes .ensures) at (k .is-ready .ensures)) (c .if1 .taken))
+    let b = buffers (now (a .open-cells)) (now (a .finished-cells)) (now (a .open-samples)) (now (a .finished-samples)) in
+    feed-unread (a .state) b (a .fed) (now (a .bytes)) (fails (rw (k .before .right-sizes .ensures) at (k .is-ready .ensures)) (c .if1 .taken))
 
 state-in-requires : tie.Need-state-in-requires
 state-in-requires c κs = search needs
@@ -50,23 +51,12 @@ returns-2 c =
     let i = t .before .before .before .before .before in
     let k = i .before .before in
     let a = k .before .before .before .before .before .args in
-    feed-given (a .state) (buffers (now (a .open-cells)) (now (a .finished-cells)) (now (a .open-samples)) (now (a .finished-samples))) (a .fed) (now (a .bytes))
+    let b = buffers (now (a .open-cells)) (now (a .finished-cells)) (now (a .open-samples)) (now (a .finished-samples)) in
+    feed-given (a .state) b (a .fed) (now (a .bytes))
     (held (rw (k .before .right-sizes .ensures) at (k .is-ready .ensures)) (i .before .if1 .left))
     _ _ (rw (i .state-in .ensures) at (t .feed .ensures)) _ _ (c .before .state-out .ensures) (c .fed-out .ensures)
 
 pub feed-spec : {M : Type 1} → statement M
 feed-spec =
-    tie.close
-    (tie.spec
-    right-sizes-requires
-    is-ready-requires
-    returns
-    state-in-requires
-    feed-requires
-    state-out-requires
-    fed-out-requires
-    same-length
-    same-length-2
-    same-length-3
-    same-length-4
-    returns-2)
+    tie.close (tie.spec right-sizes-requires is-ready-requires returns state-in-requires feed-requires state-out-requires
+    fed-out-requires same-length same-length-2 same-length-3 same-length-4 returns-2)

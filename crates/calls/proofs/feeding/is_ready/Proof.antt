@@ -38,6 +38,4 @@ returns-3 c =
     (rw (c .before .state-in .ensures) at (c .listed .ensures))
 
 pub is-ready-spec : {M : Type 1} → statement M
-is-ready-spec =
-    tie.close
-    (tie.spec is-state-requires returns returns-2 state-in-requires listed-requires returns-3)
+is-ready-spec = tie.close (tie.spec is-state-requires returns returns-2 state-in-requires listed-requires returns-3)

@@ -34,31 +34,26 @@ returns c =
     let i = k .before in
     let a = i .before .args in
     rw e
-    (sample-told (a .major) (now (a .samples)) (a .slot) (a .number) (now (a .sample)) _ _ (rw (i .major-in .ensures) at (k .sample-of .ensures)) (c .before .answer .given .1))
+    (sample-told (a .major) (now (a .samples)) (a .slot) (a .number) (now (a .sample)) _ _
+    (rw (i .major-in .ensures) at (k .sample-of .ensures)) (c .before .answer .given .1))
 
 returns-2 : tie.Need-returns-2
 returns-2 c =
     let k = c .before .before in
     let i = k .before in
     let a = i .before .args in
-    sample-told (a .major) (now (a .samples)) (a .slot) (a .number) (now (a .sample)) _ _ (rw (i .major-in .ensures) at (k .sample-of .ensures)) (c .enum-told .given .1)
+    sample-told (a .major) (now (a .samples)) (a .slot) (a .number) (now (a .sample)) _ _
+    (rw (i .major-in .ensures) at (k .sample-of .ensures)) (c .enum-told .given .1)
 
 returns-3 : tie.Need-returns-3
 returns-3 c =
     let k = c .before .before in
     let i = k .before in
     let a = i .before .args in
-    sample-told (a .major) (now (a .samples)) (a .slot) (a .number) (now (a .sample)) _ _ (rw (i .major-in .ensures) at (k .sample-of .ensures)) (c .enum-told2 .given .1)
+    sample-told (a .major) (now (a .samples)) (a .slot) (a .number) (now (a .sample)) _ _
+    (rw (i .major-in .ensures) at (k .sample-of .ensures)) (c .enum-told2 .given .1)
 
 pub sample-spec : {M : Type 1} → statement M
 sample-spec =
-    tie.close
-    (tie.spec
-    major-in-requires
-    sample-of-requires
-    enum-known-answer
-    enum-told
-    enum-told-2
-    returns
-    returns-2
+    tie.close (tie.spec major-in-requires sample-of-requires enum-known-answer enum-told enum-told-2 returns returns-2
     returns-3)

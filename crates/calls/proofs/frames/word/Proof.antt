@@ -44,13 +44,4 @@ returns-3 c =
 
 pub word-spec : {M : Type 1} → statement M
 word-spec =
-    tie.close
-    (tie.spec
-    major-in-requires
-    word-of-requires
-    enum-known-answer
-    enum-told
-    enum-told-2
-    returns
-    returns-2
-    returns-3)
+    tie.close (tie.spec major-in-requires word-of-requires enum-known-answer enum-told enum-told-2 returns returns-2 returns-3)

@@ -15,7 +15,8 @@ returns : tie.Need-returns
 returns c =
     let k = c .before in
     let a = k .before .before .before .args in
-    finish-unread (a .state) (buffers (now (a .open-cells)) (now (a .finished-cells)) (now (a .open-samples)) (now (a .finished-samples))) (a .closed) (fails (k .is-state .ensures) (c .if1 .taken))
+    let b = buffers (now (a .open-cells)) (now (a .finished-cells)) (now (a .open-samples)) (now (a .finished-samples)) in
+    finish-unread (a .state) b (a .closed) (fails (k .is-state .ensures) (c .if1 .taken))
 
 state-in-requires : tie.Need-state-in-requires
 state-in-requires c κs = search needs
@@ -44,20 +45,11 @@ returns-2 c =
     let i = t .before .before .before .before .before in
     let k = i .before .before in
     let a = k .before .before .before .args in
-    finish-given (a .state) (buffers (now (a .open-cells)) (now (a .finished-cells)) (now (a .open-samples)) (now (a .finished-samples))) (a .closed)
+    let b = buffers (now (a .open-cells)) (now (a .finished-cells)) (now (a .open-samples)) (now (a .finished-samples)) in
+    finish-given (a .state) b (a .closed)
     (held (k .is-state .ensures) (i .before .if1 .left)) _ _ (rw (i .state-in .ensures) at (t .finish .ensures)) _ (c .hand-over-closed .ensures)
 
 pub finish-spec : {M : Type 1} → statement M
 finish-spec =
-    tie.close
-    (tie.spec
-    is-state-requires
-    returns
-    state-in-requires
-    finish-requires
-    hand-over-closed-requires
-    same-length
-    same-length-2
-    same-length-3
-    same-length-4
-    returns-2)
+    tie.close (tie.spec is-state-requires returns state-in-requires finish-requires hand-over-closed-requires same-length
+    same-length-2 same-length-3 same-length-4 returns-2)

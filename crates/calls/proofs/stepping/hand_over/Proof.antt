@@ -42,12 +42,5 @@ returns-2 c =
 
 pub hand-over-spec : {M : Type 1} → statement M
 hand-over-spec =
-    tie.close
-    (tie.spec
-    enum-known-answer
-    not-zero-requires
-    enum-known-answer-2
-    state-out-requires
-    report-out-requires
-    returns
+    tie.close (tie.spec enum-known-answer not-zero-requires enum-known-answer-2 state-out-requires report-out-requires returns
     returns-2)

@@ -34,6 +34,4 @@ returns-2 c =
     ∙ sym (ap (λ (z : Ending). handedEnd z (a .x) (a .state) (a .closed)) (k .enum-told .given .1))
 
 pub hand-over-closed-spec : {M : Type 1} → statement M
-hand-over-closed-spec =
-    tie.close
-    (tie.spec enum-known-ending enum-told state-out-requires closed-out-requires returns returns-2)
+hand-over-closed-spec = tie.close (tie.spec enum-known-ending enum-told state-out-requires closed-out-requires returns returns-2)

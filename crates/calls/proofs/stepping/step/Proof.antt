@@ -15,7 +15,8 @@ returns : tie.Need-returns
 returns c =
     let k = c .before in
     let a = k .before .before .before .before .args in
-    step-unread (a .state) (buffers (now (a .open-cells)) (now (a .finished-cells)) (now (a .open-samples)) (now (a .finished-samples))) (a .report) (now (a .r)) (fails (k .is-state .ensures) (c .if1 .taken))
+    let b = buffers (now (a .open-cells)) (now (a .finished-cells)) (now (a .open-samples)) (now (a .finished-samples)) in
+    step-unread (a .state) b (a .report) (now (a .r)) (fails (k .is-state .ensures) (c .if1 .taken))
 
 state-in-requires : tie.Need-state-in-requires
 state-in-requires c κs = search needs
@@ -44,20 +45,11 @@ returns-2 c =
     let i = t .before .before .before .before .before in
     let k = i .before .before in
     let a = k .before .before .before .before .args in
-    step-given (a .state) (buffers (now (a .open-cells)) (now (a .finished-cells)) (now (a .open-samples)) (now (a .finished-samples))) (a .report) (now (a .r))
+    let b = buffers (now (a .open-cells)) (now (a .finished-cells)) (now (a .open-samples)) (now (a .finished-samples)) in
+    step-given (a .state) b (a .report) (now (a .r))
     (held (k .is-state .ensures) (i .before .if1 .left)) _ _ (rw (i .state-in .ensures) at (t .step .ensures)) _ (c .hand-over .ensures)
 
 pub step-spec : {M : Type 1} → statement M
 step-spec =
-    tie.close
-    (tie.spec
-    is-state-requires
-    returns
-    state-in-requires
-    step-requires
-    hand-over-requires
-    same-length
-    same-length-2
-    same-length-3
-    same-length-4
-    returns-2)
+    tie.close (tie.spec is-state-requires returns state-in-requires step-requires hand-over-requires same-length same-length-2
+    same-length-3 same-length-4 returns-2)

@@ -51,12 +51,4 @@ returns-2 c =
 
 pub put-meaning-spec : {M : Type 1} → statement M
 put-meaning-spec =
-    tie.close
-    (tie.spec
-    has-room-requires
-    returns
-    put-words-requires
-    slice-aggregate-put
-    put-requires
-    same-length
-    returns-2)
+    tie.close (tie.spec has-room-requires returns put-words-requires slice-aggregate-put put-requires same-length returns-2)

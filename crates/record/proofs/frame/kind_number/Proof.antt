@@ -28,5 +28,4 @@ unfolding kindNumber
 returns-3 c = sym (ap kindNumber (c .enum-told2 .given .1))
 
 pub kind-number-spec : {M : Type 1} → statement M
-kind-number-spec =
-    tie.close (tie.spec enum-known-kind enum-told enum-told-2 returns returns-2 returns-3)
+kind-number-spec = tie.close (tie.spec enum-known-kind enum-told enum-told-2 returns returns-2 returns-3)

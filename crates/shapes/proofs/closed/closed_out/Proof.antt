@@ -27,5 +27,4 @@ returns c =
     }
 
 pub closed-out-spec : {M : Type 1} → statement M
-closed-out-spec =
-    tie.close (tie.spec major-out-requires flag-of-requires flag-of-requires-2 returns)
+closed-out-spec = tie.close (tie.spec major-out-requires flag-of-requires flag-of-requires-2 returns)

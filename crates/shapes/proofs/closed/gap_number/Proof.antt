@@ -28,5 +28,4 @@ unfolding gapNumber
 returns-3 c = sym (ap gapNumber (c .enum-told3 .given .1))
 
 pub gap-number-spec : {M : Type 1} → statement M
-gap-number-spec =
-    tie.close (tie.spec enum-told enum-told-2 enum-told-3 returns returns-2 returns-3)
+gap-number-spec = tie.close (tie.spec enum-told enum-told-2 enum-told-3 returns returns-2 returns-3)

@@ -24,5 +24,4 @@ returns c =
     }
 
 pub report-out-spec : {M : Type 1} → statement M
-report-out-spec =
-    tie.close (tie.spec fields-out-requires gap-number-requires closed-out-requires returns)
+report-out-spec = tie.close (tie.spec fields-out-requires gap-number-requires closed-out-requires returns)

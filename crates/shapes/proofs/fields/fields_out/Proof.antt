@@ -41,11 +41,4 @@ returns c =
 
 pub fields-out-spec : {M : Type 1} → statement M
 fields-out-spec =
-    tie.close
-    (tie.spec
-    bits-of-requires
-    bits-of-requires-2
-    kind-number-requires
-    mark-of-requires
-    mark-of-requires-2
-    returns)
+    tie.close (tie.spec bits-of-requires bits-of-requires-2 kind-number-requires mark-of-requires mark-of-requires-2 returns)

@@ -2,7 +2,6 @@
 -- Assumes nothing.
 use Rattle.shapes.specs.States.{isState}
 use mathlib.Core.Path.{refl}
-use borrow.Author.Needs.{needs}
 use Rattle.shapes.proofs.states.is_state.Statement.{statement}
 use Rattle.shapes.proofs.states.is_state.Tie as tie
 

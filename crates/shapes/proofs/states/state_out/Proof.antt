@@ -27,5 +27,4 @@ returns c =
     }
 
 pub state-out-spec : {M : Type 1} → statement M
-state-out-spec =
-    tie.close (tie.spec flag-of-requires accumulation-out-requires major-out-requires returns)
+state-out-spec = tie.close (tie.spec flag-of-requires accumulation-out-requires major-out-requires returns)
