@@ -223,7 +223,7 @@ static void print_fed_met(const struct drive *drive)
     for (enum given given = 0; given < GIVEN; given++) {
         print_text("feeds that take ");
         print_met(records[given], drive->fed_taken[given]);
-        print_text("feeds that leave nothing else and ");
+        print_text("feeds that leave no part of a record and ");
         print_met(records[given], drive->fed_left[false][given]);
         print_text("feeds that leave a part of a record and ");
         print_met(records[given], drive->fed_left[true][given]);

@@ -151,7 +151,7 @@ struct drive {
     uint64_t broken[CALLS][CLAUSES];       /* states that break one clause alone */
     uint64_t passing;                      /* states made at random that break none */
     uint64_t wrong_sizes[CALLS][SIZED];    /* alone */
-    uint64_t flags[CALLS][2][256];         /* flag bytes in a fresh state, and in another */
+    uint64_t flags[CALLS][2][256];         /* flag bytes, in the fresh state or another */
     uint64_t spares[CALLS][SPARE_BITS];    /* bits of spare fields, alone in a good state */
     uint64_t structs[CALLS];               /* told, with all fields known and different */
 

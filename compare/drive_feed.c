@@ -7,25 +7,26 @@
 
 #include <system.h>
 
+static const struct lpmag_state fresh;
+
 /* ---- lengths ---------------------------------------------------------- */
 
-/* Three records with nothing to tell, and a part of a fourth. */
-static void make_quiet(struct random *random, struct row *row)
+/* So many records from a slot on, of one accumulation: of those in one major frame none
+ * has anything to tell. */
+static void make_quiet(struct random *random, struct row *row, uint32_t slot, uint32_t records)
 {
     struct input input;
-    uint64_t first =
-        SLOTS * random_below(random, (uint32_t)(COUNTS / SLOTS)) + random_below(random, SLOTS - 4);
-    uint8_t type = (uint8_t)random_below(random, TYPES - 4);
+    uint64_t first = SLOTS * random_below(random, (uint32_t)(COUNTS / SLOTS) - 2) + slot;
+    uint8_t type = (uint8_t)random_below(random, TYPES - records);
     row_clear(row);
-    for (uint8_t i = 0; i < 4; i++) {
-        input_make(random, &input, first + i, random_once_in(random, 4) ? other_type(random) : type + i);
+    for (uint32_t i = 0; i < records; i++) {
+        input_make(random, &input, first + i, random_once_in(random, 4) ? other_type(random) : type++);
         row_add(row, &input, LPMAG_OK);
     }
 }
 
 static void compare_lengths(struct drive *drive)
 {
-    static const struct lpmag_state fresh;
     static struct reader reader;
     static struct row row;
     struct random *random = &drive->random;
@@ -34,10 +35,26 @@ static void compare_lengths(struct drive *drive)
         for (unsigned i = 0; i < 4; i++) {
             struct question question = {FEED, NULL, 0, {{"length", length}}};
             reader_make(random, &reader, &fresh);
-            make_quiet(random, &row);
+            make_quiet(random, &row, random_below(random, SLOTS - 4), 4);
             expect_answer(drive, &question, compare_feed(drive, &reader, &row, 0, length),
                           length / LPMAG_RECORD);
         }
+}
+
+/* As many records as can be taken at once: every slot of a major frame, with nothing to
+ * tell, and the first of the next, which closes it. */
+static void compare_longest(struct drive *drive)
+{
+    static struct reader reader;
+    static struct row row;
+    struct random *random = &drive->random;
+    struct question question = {FEED, NULL, 0, {{NULL, 0}}};
+    begin(drive, "feed with more records than can be taken at once");
+    for (unsigned i = 0; i < 100; i++) {
+        make_quiet(random, &row, 0, SLOTS + 4);
+        reader_make(random, &reader, &fresh);
+        expect_answer(drive, &question, compare_feed(drive, &reader, &row, 0, row_left(&row, 0)), SLOTS + 1);
+    }
 }
 
 /* ---- refusals --------------------------------------------------------- */
@@ -138,7 +155,6 @@ static void compare_tail(struct drive *drive, struct reader *reader, const struc
 /* Steps and finishes may come between feeds. */
 static void compare_stream(struct drive *drive)
 {
-    static const struct lpmag_state fresh;
     static struct reader reader;
     static struct row row;
     struct random *random = &drive->random;
@@ -161,6 +177,7 @@ static void compare_stream(struct drive *drive)
 void drive_feed(struct drive *drive)
 {
     compare_lengths(drive);
+    compare_longest(drive);
     compare_refused(drive);
     begin(drive,
           "feed on streams of any types and counts, in parts of any length, steps and finishes between");

@@ -3,7 +3,6 @@
 #include "states.h"
 
 #include "electrons.h"
-#include "text.h"
 
 #include <system.h>
 
@@ -78,7 +77,7 @@ static void compare_spares(struct drive *drive)
 static const char sent[] = "orrrr-rrorrrrooo";
 enum { FRAMES = 11 }; /* real-time, the lost one too */
 
-/* The slots up to one of them, all in one accumulation and one major frame. */
+/* Records of one accumulation and one major frame, and what is known by them. */
 struct known {
     uint64_t number;
     uint16_t slots, mag_slots;
@@ -142,7 +141,7 @@ static void add_record(struct random *random, struct known *known, unsigned slot
     }
 }
 
-/* The slots below a last one, from the fresh state. */
+/* The first slots, so many of them. */
 static void make_records(struct random *random, struct known *known, unsigned slots)
 {
     *known = (struct known){.number = random_between(random, 1000, (uint32_t)(COUNTS / SLOTS) - 2)};
@@ -339,7 +338,8 @@ static void compare_by_steps(struct drive *drive, const struct known *known, enu
                   closing != ACCUMULATION_ALONE, closing != MAJOR_ALONE);
 }
 
-/* All at once; then a refused record, by any rule that feed can meet; then the closing one. */
+/* Some of the records; then the others and a refused one after them, by any rule from 3
+ * to 11; then the closing one. */
 static void compare_by_feeding(struct drive *drive, const struct known *known, enum closing closing)
 {
     static struct reader reader;
@@ -347,7 +347,7 @@ static void compare_by_feeding(struct drive *drive, const struct known *known, e
     struct random *random = &drive->random;
     struct input input;
     uint8_t rule = (uint8_t)random_between(random, GENERATE_FIRST_RULE + 1, GENERATE_LAST_RULE);
-    size_t before = random_below(random, (uint32_t)known->records + 1); /* fed by themselves */
+    size_t some = random_below(random, (uint32_t)known->records + 1);
     row_clear(&row);
     for (size_t i = 0; i < known->records; i++)
         row_add(&row, &known->inputs[i], LPMAG_OK);
@@ -358,10 +358,10 @@ static void compare_by_feeding(struct drive *drive, const struct known *known, e
     row_add(&row, &input, LPMAG_OK);
 
     reader_make(random, &reader, &fresh);
-    compare_feed(drive, &reader, &row, 0, LPMAG_RECORD * before);
-    expect_fed(drive, &reader, before, LPMAG_OK, known, false, false);
-    compare_feed(drive, &reader, &row, before, row_left(&row, before));
-    expect_fed(drive, &reader, known->records - before + 1, rule, known, false, false);
+    compare_feed(drive, &reader, &row, 0, LPMAG_RECORD * some);
+    expect_fed(drive, &reader, some, LPMAG_OK, known, false, false);
+    compare_feed(drive, &reader, &row, some, row_left(&row, some));
+    expect_fed(drive, &reader, known->records - some + 1, rule, known, false, false);
     expect_state(drive, FEED, &reader, known);
     compare_feed(drive, &reader, &row, known->records + 1, LPMAG_RECORD);
     expect_fed(drive, &reader, 1, LPMAG_OK, known, closing != ACCUMULATION_ALONE, closing != MAJOR_ALONE);

@@ -13,7 +13,7 @@
 
 /* What is asked of the accumulation: one energy bin and one 3D energy step. */
 enum { BIN = 7, STEP = 0 };
-enum { BIN_ANGLES = 16, STEP_ANGLES = 88, SLOTS = 16, RULES = 13, RECORDS_OF_A_READ = 256 };
+enum { RULES = 13, RECORDS_OF_A_READ = 256 };
 
 struct walk {
     struct lpmag_reader reader;
@@ -62,7 +62,7 @@ static void print_counts(uint8_t answer, const uint64_t range[2])
 static void print_bin(const uint8_t *cells, uint64_t held)
 {
     printf("\nenergy bin %d, counts by pitch angle, a column for each sample", BIN);
-    for (size_t angle = 0; angle < BIN_ANGLES; angle++) {
+    for (size_t angle = 0; angle < LPMAG_PITCH_ANGLES; angle++) {
         printf("\n%6zu", angle);
         for (size_t number = 0; number < lpmag_bin_samples(BIN); number++) {
             uint64_t range[2] = {0};
@@ -76,7 +76,7 @@ static void print_bin(const uint8_t *cells, uint64_t held)
 static void print_step(const uint8_t *cells, uint64_t held)
 {
     printf("\n3D energy step %d, counts by angle, four a line", STEP);
-    for (size_t angle = 0; angle < STEP_ANGLES; angle++) {
+    for (size_t angle = 0; angle < LPMAG_ANGLES; angle++) {
         uint64_t range[2] = {0};
         if (angle % 4 == 0)
             printf("\n%6zu", angle);
@@ -103,7 +103,7 @@ static void print_accumulation(const uint8_t *cells, uint64_t first_count, uint6
 static void print_words(const struct lpmag_major *major)
 {
     printf("subcom words by slot:");
-    for (size_t slot = 0; slot < SLOTS; slot++) {
+    for (size_t slot = 0; slot < LPMAG_SLOTS; slot++) {
         uint16_t word = 0;
         uint8_t answer = lpmag_major_word(major, slot, &word);
         if (answer == LPMAG_OK)
@@ -138,9 +138,9 @@ static void print_major(const struct lpmag_major *major, const int16_t *samples)
     print_marks("slots held", major->slots);
     print_marks("slots held with MAG", major->mag_slots);
     print_words(major);
-    while (slot < SLOTS && (major->mag_slots >> slot & 1) == 0)
+    while (slot < LPMAG_SLOTS && (major->mag_slots >> slot & 1) == 0)
         slot++;
-    if (slot < SLOTS)
+    if (slot < LPMAG_SLOTS)
         print_field(major, samples, slot);
 }
 

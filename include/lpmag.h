@@ -3,6 +3,8 @@
  * do what is said here. lpmag_reader.h is a short layer for everyday use over it;
  * examples/field.c and examples/walk.c are whole programs.
  *
+ * C11 or C++11, or later.
+ *
  * Papers: "01" is the rules for what is built, "000" the instrument's telemetry
  * format, "002" the archive label. All ranges "a to b" are inclusive.
  *
@@ -10,8 +12,8 @@
  *   - A slice is a pointer and then a number of elements. Its pointer may be null
  *     only with 0 elements. A pointer to a struct or to a single number is never null.
  *   - Each pointer is aligned for its type, and what it points to is there, so many
- *     elements of it, and initialised: a struct that is only written to is handed in
- *     with some content too ({0} will do).
+ *     elements of it, and initialised: a struct, a room or a number that is lent for an
+ *     answer has some content when it is lent (0 will do).
  *   - Nothing that is lent to be written to overlaps another argument.
  *
  * What each function keeps to
@@ -20,17 +22,21 @@
  *   - It reads and writes only what it was lent, keeps no pointer, and has no other
  *     state: calls from several threads need no lock where nothing that one of them
  *     is lent to write is lent to another at the same time.
- *   - On an answer that refuses or gives no value, all that was lent stays as found.
+ *   - On an answer that refuses or gives no value, all that was lent stays as found. (Of
+ *     a float that is lent as a NaN, that its bits stay is tested; what is proved is that
+ *     it stays a NaN.)
  *
- * Answers. A function that answers a number of bytes or the value itself is marked
- * "the value". Any other answers LPMAG_OK, a refusal's number, 1 to 13, or one of the
- * numbers from 128 on. No two of these are the same, and none is a value's.
+ * Answers. A function whose answer is the value itself (a number in bytes, a range, an
+ * angle, a kind, how many there are, the version) is marked "the value". Any other answers
+ * LPMAG_OK, a refusal's number, 1 to 13, or a number from 128 on that says why there is no
+ * value. In an answer of type uint8_t a number from 128 on is never a value and never a
+ * refusal's.
  *
  * Refusals: the number of the first rule of this list that fails (01, "Numbers a
  * refused record gets"; lpmag_refusal_words has 01's words).
- *    1  a lent buffer isn't of its size, or the state isn't one that step and finish
- *       hand out: a flag byte other than 0 and 1, a spare field other than 0, or
- *       numbers that no run of accepted records can leave
+ *    1  a lent buffer isn't of its size, or the state isn't one: a flag byte other than 0
+ *       and 1, a spare field other than 0, or numbers that break 01's list for the state.
+ *       Every state that step, feed and finish hand out passes; so do some others
  *    2  the record isn't of 472 bytes
  *    3  it doesn't begin with the sync 1A CF FC 1D
  *    4  the packet version or the spacecraft is another
@@ -45,8 +51,8 @@
  *   13  the type is already held in the accumulation that it would join; no state that
  *       passes 1 lets this happen
  *
- * The archive needs one function of its surroundings, memset, which every C library
- * has.
+ * The archive needs two functions of its surroundings, memset and memcpy, which every
+ * C library has.
  */
 #ifndef LPMAG_H
 #define LPMAG_H
@@ -75,6 +81,13 @@ uint32_t lpmag_version(void);
 #define LPMAG_CELLS 2997   /* bytes: an accumulation, 2,988 cells and 9 bytes of bit pairs */
 #define LPMAG_FRAME 864    /* numbers: the samples of a major frame, 16 slots of 54 */
 #define LPMAG_WORDS 80     /* bytes: room for the words of any refusal */
+
+/* How many there are of what is asked for by number, from 0 on. */
+#define LPMAG_SLOTS 16        /* slots of a major frame */
+#define LPMAG_BINS 15         /* energy bins of the pitch-angle samples */
+#define LPMAG_PITCH_ANGLES 16 /* angles of such a sample */
+#define LPMAG_STEPS 15        /* energy steps of 3D */
+#define LPMAG_ANGLES 88       /* angles of such a step */
 
 /* Answers. */
 #define LPMAG_OK 0              /* accepted; passes; the value is given */
@@ -114,7 +127,7 @@ struct lpmag_accumulation {
     uint64_t first;      /* the count of its first frame */
     uint64_t held;       /* the frames held, bit u of weight 2^u for type u */
     uint64_t last_count; /* the count of its last frame */
-    uint64_t others;     /* the other frames accepted since */
+    uint64_t others;     /* the other frames accepted since its last frame */
     uint8_t last_type;   /* the type of its last frame */
     uint8_t spare8;      /* 0 */
     uint16_t spare16;    /* 0 */
@@ -134,7 +147,8 @@ struct lpmag_state {
     struct lpmag_major major; /* the open major frame: open when it holds a slot */
 };
 
-/* The fields of a record that passes rules 2 to 11. */
+/* The fields of a record that passes rules 2 to 11. (In C++ too write `struct
+ * lpmag_fields`: a function has the name as well.) */
 struct lpmag_fields {
     uint32_t count;         /* the clock count, 24 bits */
     uint32_t millisecond;   /* of the day */
@@ -166,7 +180,7 @@ struct lpmag_closed {
 /* Of an accepted record. */
 struct lpmag_report {
     struct lpmag_fields fields;
-    uint8_t gap;      /* LPMAG_OPENS, LPMAG_JOINS or LPMAG_NEITHER */
+    uint8_t gap;      /* what became of the frame: LPMAG_OPENS, LPMAG_JOINS or LPMAG_NEITHER */
     uint8_t spare8;   /* 0 */
     uint16_t spare16; /* 0 */
     struct lpmag_closed closed;
@@ -218,9 +232,9 @@ uint8_t lpmag_packet(const uint8_t *record, size_t length, uint8_t *room, size_t
 uint8_t lpmag_kind(const uint8_t *packet, size_t length);
 
 /* 01's words for the number of a refusal, into a room of at least LPMAG_WORDS bytes:
- * the words, then a byte of 0; what comes after stays as found. For a number that no
- * refusal has there are no words. Answers how many bytes the words are, the value; 0
- * too for a smaller room, which stays as found. */
+ * the words, then a byte of 0; what comes after stays as found. A number that no refusal
+ * has gets the byte of 0 alone. Answers how many bytes the words are, the value: 0 also
+ * for a smaller room, which stays as found. */
 size_t lpmag_refusal_words(uint8_t number, uint8_t *room, size_t room_length);
 
 /* ---- the magnetometer ------------------------------------------------- */
@@ -307,13 +321,15 @@ uint8_t lpmag_angle(size_t anode, size_t phase);
 /* One record in, one answer out. Between calls the caller keeps a state and four
  * buffers, and hands each on as the last call left it:
  *   open cells         LPMAG_CELLS bytes: the open accumulation. 0 where no frame that
- *                      it holds carries the cell; anything while none was ever open
+ *                      it holds carries the cell, and in the bit pair of a type that isn't
+ *                      held; anything while none was ever open
  *   finished cells     LPMAG_CELLS bytes: the accumulation that was closed last; they
  *                      change only when one closes
  *   open samples       LPMAG_FRAME numbers: the open major frame. Slot s, MAG number k
  *                      (0 to 53: vector k / 3, axis k % 3) at 54 s + k; 0 where the slot
  *                      isn't held with MAG; anything while none was ever open
- *   finished samples   LPMAG_FRAME numbers: the major frame that was closed last
+ *   finished samples   LPMAG_FRAME numbers: the major frame that was closed last; they
+ *                      change only when one closes
  * A fresh state is all 0; the buffers may hold anything then.
  *
  * What is left of the input at its end, when it is shorter than a record, is one record
@@ -340,8 +356,8 @@ uint8_t lpmag_feed(struct lpmag_state *state, struct lpmag_fed *fed, uint8_t *op
                    size_t finished_samples_length, const uint8_t *bytes, size_t length);
 
 /* Closes what is open, the major frame and the accumulation, and keeps the last accepted
- * count. Answers LPMAG_OK, and then `closed` says what it closed; or 1, and then state,
- * `closed` and buffers stay as found. */
+ * count. Answers LPMAG_OK, and then `closed` says what it closed; or 1 where rule 1 fails,
+ * and then state, `closed` and buffers stay as found. */
 uint8_t lpmag_finish(struct lpmag_state *state, struct lpmag_closed *closed, uint8_t *open_cells,
                      size_t open_cells_length, uint8_t *finished_cells,
                      size_t finished_cells_length, int16_t *open_samples,
@@ -351,10 +367,11 @@ uint8_t lpmag_finish(struct lpmag_state *state, struct lpmag_closed *closed, uin
 /* ---- questions about a finished major frame --------------------------- */
 
 /* `major` is as reported (its spare field isn't looked at), `samples` the finished
- * samples. All three answer LPMAG_NO_SUCH_PLACE for a slot above 15 or samples of another
- * size, and in the cases that each names; only after that LPMAG_ABSENT when the slot
- * isn't held (for a sample and a field: isn't marked as held with MAG). A number lent
- * for an answer changes only when it is LPMAG_OK. */
+ * samples. All three answer LPMAG_NO_SUCH_PLACE for a slot above 15, the two that take
+ * samples also for samples of another size, and each in the cases that it names; only
+ * after that LPMAG_ABSENT when the slot isn't held (for a sample and a field: isn't
+ * marked as held with MAG). A number lent for an answer changes only when it is
+ * LPMAG_OK. */
 
 /* The subcom word of a slot. */
 uint8_t lpmag_major_word(const struct lpmag_major *major, size_t slot, uint16_t *word);

@@ -1,6 +1,6 @@
 /* A layer for everyday use over lpmag.h, and nothing else: the reader with all that it
- * is lent in one struct. Each function calls the one of lpmag.h that has its name, and
- * what is said there holds here.
+ * is lent in one struct. lpmag_reader_init makes a fresh one; each other function calls
+ * the one of lpmag.h that has its name, and what is said there holds here.
  *
  *     static struct lpmag_reader reader;       // 9,888 bytes
  *     lpmag_reader_init(&reader);
@@ -18,7 +18,7 @@
 
 struct lpmag_reader {
     struct lpmag_state state;
-    struct lpmag_report report; /* of the last record that lpmag_reader_step accepted */
+    struct lpmag_report report; /* of the last record that lpmag_reader_step accepted; feed leaves it */
     struct lpmag_fed fed;       /* of the last lpmag_reader_feed */
     struct lpmag_closed closed; /* of the last lpmag_reader_finish */
     uint8_t open_cells[LPMAG_CELLS];

@@ -547,7 +547,8 @@ def walk_mut(s, p):
     p("          -- the answer is 0: both are stored" if n == 2 else "          -- the answer is 0: it is stored")
     p("          (λ on.")
     for j, x in enumerate(Ss):
-        p(f"          {'assigns-last' if j == n - 1 else 'assigns'} ! (of-opd ! (load ! (from ! (fld ! refl (stop !))) (look-in ! {o} (sub ! {j + 1} refl (whole !)))))"
+        step = "assigns-last" if j == n - 1 else "assigns"
+        p(f"          {step} ! (of-opd ! (load ! (from ! (fld ! refl (stop !))) (look-in ! {o} (sub ! {j + 1} refl (whole !)))))"
           f" (from ! (hop ! (look ! {s.at(s.param[j], front)} refl) (stop !)))"
           f" (store-raw ! {2 + 4 * (n - 1 - j)} refl ({lay[x]} ({part[x]}) _ {owed[x]} .0)) $")
     p(f"          exec ! C Λ {env} last (atRet {env} Post) $")
@@ -608,7 +609,8 @@ def walk_shr(s, p):
     p("    exits : (r : ℕ) (zs : Lasts asked (κs .1) to) → Said r zs → r < 2 ^ 8 → ent 𝓤 (⋆ 𝓤 H A (Had zs)) (Post (vint w8 r))")
     p("    exits r zs e fits =")
     p("        qed W (Had zs) ∵")
-    p(f"        suffices ! _ (ends-at 𝓤 H A lent stayed (lends 𝓤 P) W ((κs, qs, tt, a, at), tt) (vint w8 r) r (tt, zs .1) {nest(['tt'] * (1 + s.m), most=20)}) $")
+    fits = nest(["tt"] * (1 + s.m), most=20)
+    p(f"        suffices ! _ (ends-at 𝓤 H A lent stayed (lends 𝓤 P) W ((κs, qs, tt, a, at), tt) (vint w8 r) r (tt, zs .1) {fits}) $")
     p("        says ! e $ join ! $ frame ! $")
     p("        move ! (2 ∷ 1 ∷ []) $ feqI ! (List Val) (ptr-vals (a .0)) (ptr-vals (a .0)) refl $ fjoin3 ! $ fjoin ! $ frame ! $")
     p("        owned ! u8 (Is u8) (uint-makes 𝓤 H A W w8) r _ (refl, fits) $ done !")
@@ -617,7 +619,8 @@ def walk_shr(s, p):
     c = s.count
     p(f"          move ! ({2 * c + 1} ∷ []) $ fsplit ! $ fsplit3 ! $ drop ! $ move ! ({3 + 2 * c} ∷ []) $ split ! $")
     p("          -- [the token; the tokens of the rest; the struct's value and borrow; what the rest owns; the locals]")
-    p(f"          move ! (3 ∷ 0 ∷ []) $ looks ! tt (rowOf {x}) (Is (rowOf {x})) (shows 𝓤 H A (rowOf {x})) (valsOf {x}) (laws.tells ({x} .type) ({x} .the-laws))")
+    p(f"          move ! (3 ∷ 0 ∷ []) $ looks ! tt (rowOf {x}) (Is (rowOf {x})) (shows 𝓤 H A (rowOf {x})) (valsOf {x})")
+    p(f"          (laws.tells ({x} .type) ({x} .the-laws))")
     p(f"          (laws.copy ({x} .type) ({x} .the-copy) 𝓤 H A W) was-{x} {ptr} (λ q v-{x}.")
     p(f"          spelt ! (rowOf {x}) (Is (rowOf {x})) (shows 𝓤 H A (rowOf {x})) (valsOf {x}) (laws.tells ({x} .type) ({x} .the-laws)) q was-{x} v-{x} {ptr} $")
     p(f"          move ! (1 ∷ []) $ facts ! (rowOf {x}) (Is (rowOf {x})) (shows 𝓤 H A (rowOf {x})) was-{x} (valsOf {x} was-{x}) (λ k-{x}.")
@@ -650,8 +653,8 @@ def fold(line, width=158):
         return [line]
     if line.startswith(("use ", "pub use ")):
         module, names = line[:-1].split("use ")[1].split(".{")
-        return [
-            f"{line.split(' ' + module)[0]} {module}.{{{piece.rstrip(',')}}}" for piece in textwrap.wrap(names, width - len(module) - 8, break_on_hyphens=False)]
+        pieces = textwrap.wrap(names, width - len(module) - 8, break_on_hyphens=False)
+        return [f"{line.split(' ' + module)[0]} {module}.{{{piece.rstrip(',')}}}" for piece in pieces]
     indent = line[:len(line) - len(line.lstrip())]
     deeper = indent if indent.startswith(" " * 10) else indent + "    "
     out = [indent]

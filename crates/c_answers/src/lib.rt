@@ -4,7 +4,7 @@ ghost use Rattle.c_answers.specs.Answers.{RangeGiven};
 use counts::Range;
 
 // LPMAG_NO_SUCH_PLACE, LPMAG_ABSENT, LPMAG_SCALE_UNKNOWN, LPMAG_TOO_LARGE, LPMAG_NO_SUCH_BIN: above every refusal's number and every
-// value that a function answers by itself.
+// value that a function answers in a byte.
 pub const NOWHERE: u8 = 128;
 
 pub const ABSENT: u8 = 129;

@@ -3,7 +3,7 @@ ghost use mathlib.Core.Path.{_≡_};
 ghost use Rattle.record.specs.Frame.{kindOf, kindNumber};
 ghost use Rattle.record.specs.Layout.{packetSize, packetBytes};
 ghost use Rattle.record.specs.Rules.{broken};
-ghost use Rattle.calls.specs.Contents.{FieldsGiven, read};
+ghost use Rattle.calls.specs.Contents.{FieldsGiven, backFields};
 ghost use Rattle.c_answers.specs.Answers.{Given};
 ghost use Rattle.c_records.specs.Records.{version, WordsGiven};
 use record::Record;
@@ -30,7 +30,7 @@ pub extern "C" fn lpmag_check(r: &[u8]) -> u8
 
 #[no_mangle]
 pub extern "C" fn lpmag_fields(fields: &mut CFields, r: &[u8]) -> u8
-    ensures { λ n. ⌜ FieldsGiven (now (fields .entry)) (now (r .entry)) (read n (now (fields .exit))) ⌝ }
+    ensures { λ n. ⌜ FieldsGiven (now (fields .entry)) (now (r .entry)) (backFields n (now (fields .exit))) ⌝ }
 {
     let y = calls::fields(*fields, r);
     if y.answer == 0 {

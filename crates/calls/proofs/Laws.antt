@@ -27,7 +27,7 @@ use Rattle.shapes.specs.declared.closed.CClosed.{CClosed}
 use Rattle.shapes.specs.declared.closed.CReport.{CReport}
 use Rattle.shapes.specs.declared.closed.CFed.{CFed}
 use Rattle.c_answers.proofs.Single.{one-value}
-use Rattle.calls.specs.Contents.{FieldsGiven, read}
+use Rattle.calls.specs.Contents.{FieldsGiven, backFields}
 use Rattle.calls.specs.Reading.{back, backClosed, handed, handedClosed, StepGiven, FinishGiven}
 use Rattle.calls.specs.Feeding.{ready, fedFrom, backFed, handedFed, FeedGiven}
 use Rattle.calls.specs.Frames.{NominalGiven}
@@ -38,7 +38,7 @@ use Rattle.calls.specs.declared.feeding.CFeeding.{CFeeding}
 
 -- one outcome
 pub one-fields : (c : CFields) (r : List ℕ) (x y : CContents) → FieldsGiven c r x → FieldsGiven c r y → x ≡ y
-one-fields c r x y u v = λ i. read (one (u .number) (v .number) i) (one (u .written) (v .written) i)
+one-fields c r x y u v = λ i. backFields (one (u .number) (v .number) i) (one (u .written) (v .written) i)
 
 pub one-nominal : (c : CMajor) (samples : List ℤ) (s k : ℕ) (old : Float) (m n : ℕ) (a b : Float)
     → NominalGiven c samples s k old m a → NominalGiven c samples s k old n b → (m ≡ n) × (a ≡ b)
@@ -54,11 +54,11 @@ module _ (s : CState) (b c d : Buffers) where
   pub one-feed : (f : CFed) (bytes : List ℕ) (x y : CFeeding) → FeedGiven s f b bytes x c → FeedGiven s f b bytes y d → (x ≡ y) × (c ≡ d)
   one-feed f bytes x y u v = (one (u .result) (v .result), one (u .left) (v .left))
 
--- "A refusal by step, finish or fields leaves state, report and all buffers as found"
-pub fields-kept : (c : CFields) (r : List ℕ) (y : CContents) → FieldsGiven c r y → (y .answer ≡ 0 → ⊥) → y ≡ read (y .answer) c
+-- where the answer isn't 0, what was lent to fields, step, finish or feed is as found (01: "state and all four buffers stay as found")
+pub fields-kept : (c : CFields) (r : List ℕ) (y : CContents) → FieldsGiven c r y → (y .answer ≡ 0 → ⊥) → y ≡ backFields (y .answer) c
 fields-kept c r y is z =
     let e = ap (λ (t : Bool). cond t (fieldsOut (recordOf r)) c) (ne-eqb (broken r) 0 (λ n. z (is .number ∙ n))) in
-    ap (read (y .answer)) (is .written ∙ e)
+    ap (backFields (y .answer)) (is .written ∙ e)
 
 module _ (s : CState) (b b′ : Buffers) where
   module _ (p : CReport) (r : List ℕ) (y : CStepped) (is : StepGiven s p b r y b′) (z : y .answer ≡ 0 → ⊥) where

@@ -17,5 +17,5 @@ pub record FieldsGiven (c : CFields) (r : List ℕ) (y : CContents) : Type 0 whe
   pub written : y .fields ≡ cond (eqb (broken r) 0) (fieldsOut (recordOf r)) c
 
 -- an answer, and what stands behind the pointer after it
-abbrev pub read : ℕ → CFields → CContents
-read n c = record { answer = n; fields = c }
+abbrev pub backFields : ℕ → CFields → CContents
+backFields n c = record { answer = n; fields = c }

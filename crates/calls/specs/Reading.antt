@@ -44,7 +44,8 @@ handedEnd ending.Done x s c = backClosed 0 (stateOut (x .state)) (closedOut (x .
 unfoldable pub handedClosed : Finished → CState → CClosed → CFinished
 handedClosed x = handedEnd (x .ending) x
 
--- 1 for what is no state; else what the reader decides, handed over; the buffers are the reader's, and as found where it wasn't asked
+-- rule 1 for what is no state; else what the reader decides, handed over. The buffers are as the reader leaves them, and as found for what
+-- is no state
 pub record StepGiven (s : CState) (p : CReport) (b : Buffers) (r : List ℕ) (y : CStepped) (b′ : Buffers) : Type 0 where
   pub number : y .answer ≡ cond (isState s) (numberOf (input (stateIn s) b r)) 1
   pub result : y ≡ cond (isState s) (handed (decidedOf (input (stateIn s) b r) .stepped) s p) (back 1 s p)

@@ -29,7 +29,7 @@ pub record KindIs (p : List ℕ) (k : Kind) : Type 0 where
   pub is : k ≡ kindOf p
   pub typed : length p ≡ packetSize → typesOf k (frameType p) ≡ true
 
--- a kind as one number: a real-time frame's type; 64, 65
+-- a kind as one number: a real-time frame's type; LPMAG_OTHER, 64; LPMAG_UNDEFINED, 65
 unfoldable pub kindNumber : Kind → ℕ
 kindNumber (RealTime t) = t
 kindNumber Other = 64
