@@ -5,16 +5,16 @@ use mathlib.Core.Bool.{Bool, true, false, not, _&&_, _||_, true≢false}
 use Prim.Native.Nat.{ℕ, _+_, _-_, _^_, _<_, _≤_}
 use native.Mathlib.Omega.{arith}
 use lib.Count.{ones}
-use lib.Dec.{eqb, ltb}
+use lib.Dec.{eqb, ltb, leb}
 use lib.Pow.{pow-mono}
 use borrow.Author.Tests.{eqb-true, eqb-false, ltb-true, leb-true, eq-eqb, ne-eqb, lt-ltb}
 use Rattle.tables.proofs.Conds.{two, second}
 use Rattle.tables.specs.Marks.{bitSet, highest}
-use Rattle.tables.proofs.Marks.{highest-high, bits-above}
+use Rattle.tables.proofs.Marks.{highest-high, highest-set, bits-above, set-below}
 use Rattle.clock.specs.Clock.{counts, begun}
 use Rattle.clock.specs.declared.Clock.{Clock}
 use Rattle.clock.proofs.Laws.{has-begun}
-use Rattle.accumulation.specs.Accumulation.{isOpen, joins, unguarded, stepAccumulation}
+use Rattle.accumulation.specs.Accumulation.{isOpen, gap, fewest, most, joins, unguarded, stepAccumulation}
 use Rattle.accumulation.specs.List.{countsBelow, framesAmong, framesFit, othersFit, noneOpen, accumulationListed}
 use Rattle.accumulation.specs.Place.{After, inPlace, leaves, steppedAt, guardPasses}
 use Rattle.accumulation.specs.declared.Accumulation.{Accumulation}
@@ -90,15 +90,22 @@ pub joins-open : (a : Accumulation) (u d : ℕ) → joins a u d ≡ true → a .
 unfolding joins
 joins-open a u d e = is-open a (two (isOpen a) _ e .0)
 
-joins-type : (a : Accumulation) (u d : ℕ) → joins a u d ≡ true → a .«last_type» < u
+-- types rise strictly inside an accumulation: a frame that joins is of a higher type than each that is held
+pub types-rise : (a : Accumulation) (u d : ℕ) → framesAmong a ≡ true → joins a u d ≡ true → (t : ℕ) → bitSet (a .held) t ≡ true → t < u
 unfolding joins
-joins-type a u d e = ltb-true (a .«last_type») u (two _ _ (two (isOpen a) _ e .1) .0)
+types-rise a u d f e t s =
+    let last = a .«last_type» in
+    let within = leb (fewest last u) (gap a d) && leb (gap a d) (most last u) in
+    let p = two (isOpen a) (ltb last u && within) e in
+    let h = highest-high (a .held) last (highest-frame a f (is-open a (p .0))) in
+    omega (arith, ltb-true last u (two (ltb last u) within (p .1) .0), set-below (a .held) t (last + 1) h s)
 
--- types rise strictly inside an accumulation: a frame that joins has a mark of its own
+-- so it has a mark of its own, above all others
 pub below-mark : (a : Accumulation) (u d : ℕ) → framesAmong a ≡ true → joins a u d ≡ true → a .held < 2 ^ u
 below-mark a u d f e =
-    let h = highest-high (a .held) (a .«last_type») (highest-frame a f (joins-open a u d e)) in
-    omega (arith, pow-mono {i = a .«last_type» + 1} {j = u} (omega (arith, joins-type a u d e)))
+    let q = highest-frame a f (joins-open a u d e) in
+    let l = types-rise a u d f e (a .«last_type») (highest-set (a .held) (a .«last_type») q) in
+    omega (arith, highest-high (a .held) (a .«last_type») q, pow-mono {i = a .«last_type» + 1} {j = u} (omega arith))
 
 -- so the old guard never fires
 pub guard-holds : (a : Accumulation) (science : Bool) (u d : ℕ) → framesAmong a ≡ true → unguarded a science u d ≡ true

@@ -1,5 +1,6 @@
 // Which frames join the open accumulation (01, "Joining accumulations").
 ghost use mathlib.Core.Path.{_≡_};
+ghost use Prim.Native.Nat.{_-_, _≤_};
 ghost use Rattle.accumulation.specs.Accumulation.{joins};
 ghost use Rattle.accumulation.specs.Place.{After, inPlace, guardPasses};
 use crate::Accumulation;
@@ -25,7 +26,15 @@ pub(crate) fn in_place(a: Accumulation, u: u8, d: u64) -> bool
     a.others < d - a.last_count
 }
 
-// Does a frame with science, of type u at count d, join?
+// How many types u lies above t.
+fn above(t: u8, u: u8) -> u64
+    requires { ⌜ t ≤ u ⌝ }
+    ensures { λ n. ⌜ n ≡ u - t ⌝ }
+{
+    (u - t) as u64
+}
+
+// Does a frame with science, of type u at count d, join? "u - t - 1 <= g" is asked without a difference that would be cut off at 0.
 pub(crate) fn joins_at(a: Accumulation, u: u8, d: u64) -> bool
     requires { ⌜ After a d ⌝ }
     ensures { λ b. ⌜ b ≡ joins a u d ⌝ }
@@ -36,9 +45,9 @@ pub(crate) fn joins_at(a: Accumulation, u: u8, d: u64) -> bool
     if u <= a.last_type {
         return false;
     }
-    let apart = (u - a.last_type) as u64;
+    let apart = above(a.last_type, u);
     let g = d - a.last_count - 1 - a.others;
-    if g < apart - 1 {
+    if g + 1 < apart {
         return false;
     }
     g <= 34 + apart

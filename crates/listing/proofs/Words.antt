@@ -1,4 +1,4 @@
--- 01's words for a number: each row of the table by its number, and none past it.
+-- 01's words for a number: each row of `words` by its number, and none past it.
 -- Assumes nothing.
 use mathlib.Core.Path.{_≡_, refl, sym, ap, subst, _∙_}
 use mathlib.Core.Bool.{Bool, true, false}
@@ -17,13 +17,20 @@ use Rattle.listing.specs.Refusals.{words, wordsOf, wordsSize, place, pla
 use Rattle.listing.proofs.Puts.{put-none, put-then, room-after}
 use Rattle.listing.proofs.Digits.{length-decimal}
 
--- all of them, one after another, and where those of each number end
+-- the numbers that have a row, 0 among them
+abbrev pub rows : ℕ
+rows = 14
+
+-- all of them, one after another, how many bytes they are, and where those of each number end
 abbrev pub joined : List String → List ℕ
 joined [] = []
 joined (w ∷ ws) = ascii w ++ joined ws
 
 unfoldable pub text : List ℕ
 text = joined words
+
+abbrev pub textSize : ℕ
+textSize = 400
 
 unfoldable pub ends : List ℕ
 ends = 0 ∷ 67 ∷ 83 ∷ 95 ∷ 124 ∷ 136 ∷ 150 ∷ 167 ∷ 195 ∷ 220 ∷ 238 ∷ 251 ∷ 324 ∷ 400 ∷ []
@@ -53,7 +60,7 @@ abbrev starts : ℕ → Bool
 starts k = leb (endOf (k - 1)) (endOf k)
 
 abbrev stops : ℕ → Bool
-stops k = leb (endOf k) 400
+stops k = leb (endOf k) textSize
 
 abbrev fits : ℕ → Bool
 fits k = leb (length (wordsOf k)) wordsSize
@@ -66,7 +73,7 @@ all k = both (starts k) (both (stops k) (both (fits k) (tells k)))
 
 pub record Row (k : ℕ) : Type 0 where
   pub from-to : endOf (k - 1) ≤ endOf k
-  pub inside : endOf k ≤ 400
+  pub inside : endOf k ≤ textSize
   pub short : length (wordsOf k) ≤ wordsSize
   pub is : part k ≡ wordsOf k
 
@@ -76,16 +83,16 @@ row-by k t =
     let v = both-right (stops k) (both (fits k) (tells k)) u in
     record {
       from-to = leb→le (endOf (k - 1)) (endOf k) (both-left (starts k) (both (stops k) (both (fits k) (tells k))) t);
-      inside = leb→le (endOf k) 400 (both-left (stops k) (both (fits k) (tells k)) u);
+      inside = leb→le (endOf k) textSize (both-left (stops k) (both (fits k) (tells k)) u);
       short = leb→le (length (wordsOf k)) wordsSize (both-left (fits k) (tells k) v);
       is = same-is (part k) (wordsOf k) (both-right (fits k) (tells k) v);
     }
 
-pub row-of : (k : ℕ) → k < 14 → Row k
+pub row-of : (k : ℕ) → k < rows → Row k
 unfolding text ends wordsOf both
-row-of k h = row-by k (upto-at all 14 tt k h)
+row-of k h = row-by k (upto-at all rows tt k h)
 
-pub words-past : (rule : ℕ) → 14 ≤ rule → wordsOf rule ≡ []
+pub words-past : (rule : ℕ) → rows ≤ rule → wordsOf rule ≡ []
 unfolding wordsOf
 words-past rule h = ap ascii (List·getD-eq-default words "" h)
 
@@ -95,11 +102,11 @@ no-words rule d at h e = subst (λ (t : List ℕ). Put d at t d at) (sym e) (put
 
 -- the longest
 pub length-words : (rule : ℕ) → length (wordsOf rule) ≤ wordsSize
-length-words rule = go (ltb rule 14) refl
+length-words rule = go (ltb rule rows) refl
   where
-    go : (b : Bool) → ltb rule 14 ≡ b → length (wordsOf rule) ≤ wordsSize
-    go true e = row-of rule (ltb-true rule 14 e) .short
-    go false e = subst (λ (t : List ℕ). length t ≤ wordsSize) (sym (words-past rule (ltb-false rule 14 e))) (omega arith)
+    go : (b : Bool) → ltb rule rows ≡ b → length (wordsOf rule) ≤ wordsSize
+    go true e = row-of rule (ltb-true rule rows e) .short
+    go false e = subst (λ (t : List ℕ). length t ≤ wordsSize) (sym (words-past rule (ltb-false rule rows e))) (omega arith)
 
 pub length-place : (n offset : ℕ) → length (place n offset) ≤ placeSize
 unfolding place
@@ -110,23 +117,24 @@ pub length-refusal : (n offset rule : ℕ) → length (refusalLine n offset rule
 unfolding refusalLine
 length-refusal n offset rule = simp length-append (omega (arith, length-place n offset, length-decimal rule, length-words rule))
 
--- the parts of such a line, each put where the one before ends; what is free after each
+-- the parts of such a line, each put where the one before ends; what is free after each: room for the words and the line's end
+-- (1), before them ": " (2), before it a space and the digits (21), before these ": refused with" (14)
 module _ (n offset rule : ℕ) {d : List ℕ} {at : ℕ} (h : at + refusalSize ≤ length d)
     {d₁ : List ℕ} {p₁ : ℕ} (o : Put d at (place n offset) d₁ p₁)
     {d₂ : List ℕ} {p₂ : ℕ} (w : Put d₁ p₁ (ascii ": refused with") d₂ p₂)
     {d₃ : List ℕ} {p₃ : ℕ} (r : Put d₂ p₂ (space ∷ decimal rule) d₃ p₃)
     {d₄ : List ℕ} {p₄ : ℕ} (c : Put d₃ p₃ (ascii ": ") d₄ p₄) where
-  after-place : p₁ + 114 ≤ length d₁
-  after-place = room-after o 114 (omega (arith, h, length-place n offset))
+  after-place : p₁ + (wordsSize + 38) ≤ length d₁
+  after-place = room-after o (wordsSize + 38) (omega (arith, h, length-place n offset))
 
-  after-with : p₂ + 100 ≤ length d₂
-  after-with = room-after w 100 (omega (arith, after-place))
+  after-with : p₂ + (wordsSize + 24) ≤ length d₂
+  after-with = room-after w (wordsSize + 24) (omega (arith, after-place))
 
-  after-number : p₃ + 79 ≤ length d₃
-  after-number = room-after r 79 (omega (arith, after-with, length-decimal rule))
+  after-number : p₃ + (wordsSize + 3) ≤ length d₃
+  after-number = room-after r (wordsSize + 3) (omega (arith, after-with, length-decimal rule))
 
-  pub after-colon : p₄ + 77 ≤ length d₄
-  after-colon = room-after c 77 (omega (arith, after-number))
+  pub after-colon : p₄ + (wordsSize + 1) ≤ length d₄
+  after-colon = room-after c (wordsSize + 1) (omega (arith, after-number))
 
   module _ {d₅ : List ℕ} {p₅ : ℕ} (t : Put d₄ p₄ (wordsOf rule) d₅ p₅) where
     pub after-words : p₅ + 1 ≤ length d₅

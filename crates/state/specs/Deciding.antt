@@ -82,9 +82,13 @@ acceptance s f d range = record {
   works = record { samples = inMajor s f d range .work; cells = inAccumulation s f d .work };
 }
 
+-- what a number decides: 0 that the record is accepted, any other that it is refused with that number
+abbrev pub decidedAs : Input → ℕ → Decided
+decidedAs i n = cond (eqb n 0) (acceptance (i .state) (fieldsOf i) (countAt i) (magRange i)) (refusal (i .state) n)
+
 -- the decision
 unfoldable pub decidedOf : Input → Decided
-decidedOf i = cond (eqb (numberOf i) 0) (acceptance (i .state) (fieldsOf i) (countAt i) (magRange i)) (refusal (i .state) (numberOf i))
+decidedOf i = decidedAs i (numberOf i)
 
 -- 01's number of each case
 unfoldable pub answerNumber : Answer → ℕ

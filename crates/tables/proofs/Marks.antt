@@ -1,9 +1,9 @@
 -- Laws of marks kept as the bits of a number.
 -- Assumes nothing.
 use mathlib.Core.Path.{_≡_, refl, sym, ap, _∙_}
-use mathlib.Core.Bool.{Bool, true, false}
+use mathlib.Core.Bool.{Bool, true, false, true≢false}
 use Prim.Native.Nat.{ℕ, zero, suc, _+_, _-_, _*_, _/_, _%_, _^_, _<_, _≤_}
-use native.Mathlib.Nat.{add-comm, add-zero, add-suc, one-mul, pow-suc, div-eq-of-lt, mod-eq-of-lt, add-mul-div-right, div-lt-iff-lt-mul}
+use native.Mathlib.Nat.{add-comm, add-zero, add-suc, one-mul, pow-suc, div-eq-of-lt, mod-eq-of-lt, add-mul-div-right, div-lt-iff-lt-mul, lt-of-lt-of-le}
 use native.Mathlib.Numerals.{add-one}
 use native.Mathlib.Omega.{arith}
 use lib.Count.{ones, onesIn, ones-cat}
@@ -23,6 +23,11 @@ highest-high n k e =
     let q = eqb-true (n / 2 ^ k) 1 e in
     let below = div-lt-iff-lt-mul {x = n} {y = 2} (pow-pos k) .0 (omega arith) in
     rw (add-one k) (omega (arith, pow-suc 2 k))
+
+-- it is set
+pub highest-set : (n k : ℕ) → highest n k ≡ true → bitSet n k ≡ true
+unfolding highest
+highest-set n k e = rw (eqb-true (n / 2 ^ k) 1 e)
 
 ones-one : ones 1 ≡ 1
 unfolding ones onesIn
@@ -53,6 +58,14 @@ module _ (n u : ℕ) (h : n < 2 ^ u) where
 -- no mark from u on
 pub bits-above : (n i : ℕ) → n < 2 ^ i → bitSet n i ≡ false
 bits-above n i h = rw (div-eq-of-lt h)
+
+-- so a mark that is set stands below
+pub set-below : (n i u : ℕ) → n < 2 ^ u → bitSet n i ≡ true → i < u
+set-below n i u h s = go (ltb i u) refl
+  where
+    go : (t : Bool) → ltb i u ≡ t → i < u
+    go true t = ltb-true i u t
+    go false t = absurd (true≢false (sym s ∙ bits-above n i (lt-of-lt-of-le h (pow-mono (ltb-false i u t)))))
 
 -- the other marks stay
 pub marked-other : (n u i : ℕ) → n < 2 ^ u → (i ≡ u → ⊥) → bitSet (marked n u) i ≡ bitSet n i

@@ -108,6 +108,19 @@ parts-then part (x ∷ xs) ys b l =
     go true z e = e
     go false z e = rw z
 
+-- a rule behind others that holds wherever they all do changes no number
+pub idle-behind : {A : Type 0} (xs : List (Rule A)) (x : Rule A) (a : A) → (allHold xs a ≡ true → x .holds a ≡ true)
+    → firstBroken (xs ++ (x ∷ [])) a ≡ firstBroken xs a
+unfolding firstBroken allHold
+idle-behind [] x a h = rw (h refl)
+idle-behind (y ∷ ys) x a h = go (y .holds a) h (idle-behind ys x a)
+  where
+    go : (t : Bool) → ((t && allHold ys a) ≡ true → x .holds a ≡ true)
+        → ((allHold ys a ≡ true → x .holds a ≡ true) → firstBroken (ys ++ (x ∷ [])) a ≡ firstBroken ys a)
+        → cond t (firstBroken (ys ++ (x ∷ [])) a) (y .number) ≡ cond t (firstBroken ys a) (y .number)
+    go true h more = more h
+    go false h more = refl
+
 -- examples: "before" goes by the list and not by the size of the numbers; a number that stands twice is found
 module _ {A : Type 0} (p q s t : A → Bool) where
   abbrev unordered : List (Rule A)

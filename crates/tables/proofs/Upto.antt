@@ -1,13 +1,13 @@
--- A rule at every number below n, proved by one test that is computed.
+-- A rule at every number below n, proved by one test that is computed; a test that passes somewhere below n, or nowhere.
 -- Assumes nothing.
 use mathlib.Core.Path.{_≡_, refl, sym, subst}
-use mathlib.Core.Bool.{Bool, true, false}
+use mathlib.Core.Bool.{Bool, true, false, _||_, or-true}
 use Prim.Native.Nat.{ℕ, zero, suc, _<_}
 use native.Mathlib.Omega.{arith}
 use native.Mathlib.Nat.{not-suc-le-zero}
 use native.Mathlib.Decide.{decLt}
 use lib.Dec.{T}
-use Rattle.tables.specs.Upto.{both, upto}
+use Rattle.tables.specs.Upto.{both, upto, somewhere}
 
 pub both-left : (a b : Bool) → T (both a b) → T a
 unfolding both
@@ -39,3 +39,19 @@ is-true false t = absurd t
 
 pub upto-true : (f : ℕ → Bool) (n : ℕ) → upto f n ≡ true → (k : ℕ) → k < n → f k ≡ true
 upto-true f n e k h = is-true (f k) (upto-at f n (subst T (sym e) tt) k h)
+
+-- a test that passes at a number below n passes somewhere
+pub somewhere-at : (f : ℕ → Bool) (n k : ℕ) → k < n → f k ≡ true → somewhere f n ≡ true
+unfolding somewhere
+somewhere-at f zero k h e = absurd (not-suc-le-zero h)
+somewhere-at f (suc n) k h e = go (decLt k n) (somewhere-at f n k)
+  where
+    go : Dec (k < n) → (k < n → f k ≡ true → somewhere f n ≡ true) → (f n || somewhere f n) ≡ true
+    go (yes l) more = rw (more l e) (or-true (f n))
+    go (no l) more = let p : k ≡ n = omega arith in rw (subst (λ (m : ℕ). f m ≡ true) p e)
+
+-- and one that passes at none passes nowhere
+pub nowhere : (f : ℕ → Bool) (n : ℕ) → ((k : ℕ) → k < n → f k ≡ false) → somewhere f n ≡ false
+unfolding somewhere
+nowhere f zero h = refl
+nowhere f (suc n) h = rw (h n (omega arith), nowhere f n (λ k l. h k (omega arith)))

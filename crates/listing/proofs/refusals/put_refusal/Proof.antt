@@ -1,7 +1,7 @@
 -- `listing::refusals::put_refusal` meets its contract: a text after another.
 -- Assumes nothing.
 use denote.Ref.{now}
-use Rattle.listing.specs.Refusals.{refusalLine}
+use Rattle.listing.specs.Refusals.{refusalLine, refusalSize}
 use Rattle.listing.proofs.Digits.{length-decimal}
 use Rattle.listing.proofs.Words.{length-place, after-colon, after-words, refusal-put}
 use Rattle.buffers.proofs.Patches.{no-room, has-room}
@@ -18,14 +18,14 @@ returns : tie.Need-returns
 returns c =
     let k₁ = c .before in
     let a = k₁ .before .before .args in
-    not-written 170 (refusalLine (a .number) (a .offset) (a .rule)) (now (a .out)) (a .at)
-    (no-room (now (a .out)) (a .at) 170 _ (k₁ .has-room .ensures) (c .if1 .taken))
+    not-written refusalSize (refusalLine (a .number) (a .offset) (a .rule)) (now (a .out)) (a .at)
+    (no-room (now (a .out)) (a .at) refusalSize _ (k₁ .has-room .ensures) (c .if1 .taken))
 
 put-place-requires : tie.Need-put-place-requires
 put-place-requires c κs =
     let i = c .before in
     let a = i .before .before .before .args in
-    let h = has-room (now (a .out)) (a .at) 170 _ (i .before .has-room .ensures) (i .if1 .left) in
+    let h = has-room (now (a .out)) (a .at) refusalSize _ (i .before .has-room .ensures) (i .if1 .left) in
     omega (arith, h)
 
 slice-aggregate-put : tie.Need-slice-aggregate-put
@@ -35,7 +35,7 @@ put-requires : tie.Need-put-requires
 put-requires c κs =
     let i = c .before .before .before .before .before .before in
     let a = i .before .before .before .args in
-    let h = has-room (now (a .out)) (a .at) 170 _ (i .before .has-room .ensures) (i .if1 .left) in
+    let h = has-room (now (a .out)) (a .at) refusalSize _ (i .before .has-room .ensures) (i .if1 .left) in
     omega (arith, h, length-place (a .number) (a .offset))
 
 put-number-requires : tie.Need-put-number-requires
@@ -43,7 +43,7 @@ put-number-requires c κs =
     let k₁ = c .before .before .before .before .before in
     let i = k₁ .before .before .before .before .before in
     let a = i .before .before .before .args in
-    let h = has-room (now (a .out)) (a .at) 170 _ (i .before .has-room .ensures) (i .if1 .left) in
+    let h = has-room (now (a .out)) (a .at) refusalSize _ (i .before .has-room .ensures) (i .if1 .left) in
     omega (arith, h, length-place (a .number) (a .offset))
 
 slice-aggregate-put-2 : tie.Need-slice-aggregate-put-2
@@ -54,7 +54,7 @@ put-requires-2 c κs =
     let k₁ = c .before .before .before .before .before .before .before .before in
     let i = k₁ .before .before .before .before .before .before .before in
     let a = i .before .before .before .args in
-    let h = has-room (now (a .out)) (a .at) 170 _ (i .before .has-room .ensures) (i .if1 .left) in
+    let h = has-room (now (a .out)) (a .at) refusalSize _ (i .before .has-room .ensures) (i .if1 .left) in
     omega (arith, h, length-place (a .number) (a .offset), length-decimal (a .rule))
 
 put-words-requires : tie.Need-put-words-requires
@@ -65,7 +65,7 @@ put-words-requires c κs =
     let k₁ = k₂ .before .before .before .before .before in
     let i = k₁ .before .before in
     let a = i .before .before .before .args in
-    let h = has-room (now (a .out)) (a .at) 170 _ (i .before .has-room .ensures) (i .if1 .left) in
+    let h = has-room (now (a .out)) (a .at) refusalSize _ (i .before .has-room .ensures) (i .if1 .left) in
     let g =
     after-colon (a .number) (a .offset) (a .rule) h
     (k₁ .put-place .ensures) (k₂ .put .ensures) (k₃ .put-number .ensures) (k₄ .put2 .ensures) in
@@ -83,7 +83,7 @@ put-requires-3 c κs =
     let k₁ = k₂ .before .before .before .before .before in
     let i = k₁ .before .before in
     let a = i .before .before .before .args in
-    let h = has-room (now (a .out)) (a .at) 170 _ (i .before .has-room .ensures) (i .if1 .left) in
+    let h = has-room (now (a .out)) (a .at) refusalSize _ (i .before .has-room .ensures) (i .if1 .left) in
     after-words (a .number) (a .offset) (a .rule) h
     (k₁ .put-place .ensures) (k₂ .put .ensures) (k₃ .put-number .ensures) (k₄ .put2 .ensures) (k₅ .put-words .ensures)
 
@@ -100,11 +100,11 @@ returns-2 c =
     let k₁ = k₂ .before .before .before .before .before in
     let i = k₁ .before .before in
     let a = i .before .before .before .args in
-    let h = has-room (now (a .out)) (a .at) 170 _ (i .before .has-room .ensures) (i .if1 .left) in
+    let h = has-room (now (a .out)) (a .at) refusalSize _ (i .before .has-room .ensures) (i .if1 .left) in
     is-written
     (refusal-put (a .number) (a .offset) (a .rule) h (k₁ .put-place .ensures) (k₂ .put .ensures) (k₃ .put-number .ensures)
     (k₄ .put2 .ensures) (k₅ .put-words .ensures) (k₆ .put3 .ensures))
-    170
+    refusalSize
     h
 
 pub put-refusal-spec : {M : Type 1} → statement M
