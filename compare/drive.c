@@ -236,7 +236,6 @@ static void print_fed_met(const struct drive *drive)
               rarest(drive->fed_lengths, sizeof drive->fed_lengths / sizeof drive->fed_lengths[0]));
 }
 
-/* Rule 13 is never met: no state that keeps the list holds a type above its last. */
 static void print_reader_met(const struct drive *drive)
 {
     for (unsigned answer = 0; answer <= 12; answer++) {
@@ -282,7 +281,7 @@ static void print_all_met(const struct drive *drive)
     print_met("real-time packets, of the rarest type among 0 to 35", rarest(drive->kinds, 36));
     print_met("other packets", drive->kinds[LPMAG_OTHER]);
     print_met("undefined packets", drive->kinds[LPMAG_UNDEFINED]);
-    print_met("words of the rarest refusal among 1 to 13", rarest(drive->words + 1, 13));
+    print_met("words of the rarest refusal among 1 to 12", rarest(drive->words + 1, 12));
     print_met("words of another number", drive->words[0]);
     print_met("words in a room that is too small", drive->words_not_given);
     print_met("MAG bytes, of the rarest range among 0 to 7", rarest(drive->ranges, 8));

@@ -121,7 +121,7 @@ struct drive {
     uint64_t records;                         /* through every function of a record */
     uint64_t refusals[12];                    /* by number; 0 where a record passes */
     uint64_t kinds[LPMAG_UNDEFINED + 1];      /* of whole packets */
-    uint64_t words[14];                       /* given, by number of the refusal; 0 for any other */
+    uint64_t words[13];                       /* given, by number of the refusal; 0 for any other */
     uint64_t words_not_given;                 /* the room being too small */
     uint64_t ranges[LPMAG_NO_SUCH_PLACE + 1]; /* answered for samples */
 
@@ -137,7 +137,7 @@ struct drive {
     uint64_t angles[LPMAG_NO_SUCH_BIN + 1];
 
     /* And of the reader. */
-    uint64_t steps[14];                    /* by answer */
+    uint64_t steps[13];                    /* by answer */
     uint64_t feeds[2];                     /* by answer */
     uint64_t finishes[2];                  /* by answer */
     uint64_t fresh[CALLS];                 /* calls of answer 0 with the fresh state */
@@ -156,7 +156,7 @@ struct drive {
     uint64_t structs[CALLS];               /* told, with all fields known and different */
 
     /* And of what is fed. */
-    uint64_t fed[14];                  /* feeds of answer 0 that took a record, by what it was answered */
+    uint64_t fed[13];                  /* feeds of answer 0 that took a record, by what it was answered */
     uint64_t fed_taken[GIVEN];         /* feeds of answer 0, by the records taken */
     uint64_t fed_left[2][GIVEN];       /* by whether a part of a record is left, and by the records left */
     uint64_t fed_broken[2][GIVEN];     /* refused for a size or for the state, by the records given */

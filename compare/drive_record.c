@@ -316,7 +316,8 @@ static void compare_kinds(struct drive *drive)
 
 /* ---- the words of a refusal ------------------------------------------- */
 
-/* 01, "Numbers a refused record gets", the second column; none before the first. */
+/* 01, "Numbers a refused record gets", the second column up to 12 (13 is gone by 02,
+ * request 11); none before the first. */
 static const char *expected_words(unsigned number)
 {
     static const char *const words[] = {
@@ -333,9 +334,8 @@ static const char *expected_words(unsigned number)
         [10] = "a flag is 00 or 11",
         [11] = "type is 58-61",
         [12] = "something was accepted before and the count isn't above the last accepted",
-        [13] = "a cell of this type is already held in the accumulation it joins (old guard)",
     };
-    return number <= 13 ? words[number] : words[0];
+    return number <= 12 ? words[number] : words[0];
 }
 
 static void compare_words(struct drive *drive, uint8_t number, size_t room_length)
@@ -358,7 +358,7 @@ static void compare_words(struct drive *drive, uint8_t number, size_t room_lengt
         expected[length] = 0;
         expect_bytes(drive, &question, "the room isn't 01's words, a 0 and what was found",
                      room_of_bytes(&rooms, &rooms.first), expected, room_length);
-        drive->words[number <= 13 ? number : 0]++;
+        drive->words[number <= 12 ? number : 0]++;
     } else {
         drive->words_not_given++;
     }

@@ -28,7 +28,7 @@
  *
  * Answers. A function whose answer is the value itself (a number in bytes, a range, an
  * angle, a kind, how many there are, the version) is marked "the value". Any other answers
- * LPMAG_OK, a refusal's number, 1 to 13, or a number from 128 on that says why there is no
+ * LPMAG_OK, a refusal's number, 1 to 12, or a number from 128 on that says why there is no
  * value. In an answer of type uint8_t a number from 128 on is never a value and never a
  * refusal's.
  *
@@ -48,8 +48,6 @@
  *   10  one of the three status flags is 00 or 11, neither 01 nor 10
  *   11  the frame's type is one of 58 to 61, which are not defined
  *   12  something was accepted before, and the count isn't above the last accepted
- *   13  the type is already held in the accumulation that it would join; no state that
- *       passes 1 lets this happen
  *
  * The archive needs two functions of its surroundings, memset and memcpy, which every
  * C library has.

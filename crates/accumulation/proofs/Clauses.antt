@@ -1,19 +1,18 @@
--- The clauses of the accumulation's part of the list, its place and the old guard, as the code tests them.
+-- The clauses of the accumulation's part of the list, and its place, as the code tests them.
 -- Assumes nothing.
 use mathlib.Core.Path.{_≡_, refl, sym}
-use mathlib.Core.Bool.{Bool, true, false, not, cond, _&&_}
-use Prim.Native.Nat.{ℕ, _+_, _-_, _/_, _%_, _^_, _<_, _≤_}
+use mathlib.Core.Bool.{Bool, true, false}
+use Prim.Native.Nat.{ℕ, _+_, _-_, _/_, _^_, _<_, _≤_}
 use native.Mathlib.Nat.{div-eq-of-lt, lt-of-lt-of-le}
 use native.Mathlib.Omega.{arith}
 use lib.Count.{ones}
 use lib.Dec.{ltb, leb}
 use lib.Pow.{pow-mono}
-use borrow.Author.Tests.{eq-eqb, ne-eqb, le-leb, lt-leb, lt-ltb, le-ltb, ltb-true, ltb-false, leb-true, leb-false}
-use Rattle.tables.specs.Marks.{bitSet, highest}
+use borrow.Author.Tests.{ne-eqb, le-leb, lt-leb, lt-ltb, le-ltb, ltb-true, ltb-false, leb-true, leb-false}
+use Rattle.tables.specs.Marks.{highest}
 use Rattle.clock.specs.declared.Clock.{Clock}
 use Rattle.accumulation.specs.List.{framesAmong, framesFit, othersFit}
-use Rattle.accumulation.specs.Accumulation.{joins, unguarded}
-use Rattle.accumulation.specs.Place.{inPlace, guardPasses}
+use Rattle.accumulation.specs.Place.{inPlace}
 use Rattle.accumulation.specs.declared.Accumulation.{Accumulation}
 
 -- marks below 2^n have no highest from n on
@@ -61,41 +60,3 @@ module _ (a : Accumulation) (u d : ℕ) (h : u < 64) (f : a .held < 2 ^ 36) (z :
       go : (t : Bool) → ltb (a .others) (d - a .«last_count») ≡ t → t ≡ inPlace a u d
       go true e = here true (lt-ltb (a .«last_count» + a .others) d (omega (arith, ltb-true (a .others) (d - a .«last_count») e)))
       go false e = here false (le-ltb (a .«last_count» + a .others) d (omega (arith, ltb-false (a .others) (d - a .«last_count») e)))
-
--- the old guard, test by test
-module _ (a : Accumulation) (science : Bool) (u d : ℕ) where
-  pub guard-out : inPlace a u d ≡ false → true ≡ guardPasses a science u d
-  unfolding guardPasses
-  guard-out e = rw e
-
-  pub guard-wide : 63 < u → true ≡ guardPasses a science u d
-  unfolding inPlace
-  guard-wide h = guard-out (rw (le-ltb u 64 (omega arith)))
-
-  -- where the mark isn't set, or the frame has no science, or doesn't join
-  passes-by : (s j b : Bool) → (s && (j && b)) ≡ false → joins a u d ≡ j → science ≡ s → bitSet (a .held) u ≡ b → true ≡ guardPasses a science u d
-  unfolding guardPasses unguarded
-  passes-by s j b e p q r = go (inPlace a u d)
-    where
-      go : (t : Bool) → true ≡ cond t (not (science && (joins a u d && bitSet (a .held) u))) true
-      go true = rw (q, p, r, e)
-      go false = refl
-
-  pub guard-free : (a .held / 2 ^ u % 2 ≡ 1 → ⊥) → true ≡ guardPasses a science u d
-  guard-free h = passes-by science (joins a u d) false (none science (joins a u d)) refl refl (ne-eqb (a .held / 2 ^ u % 2) 1 h)
-    where
-      none : (s j : Bool) → (s && (j && false)) ≡ false
-      none true true = refl
-      none true false = refl
-      none false j = refl
-
-  pub guard-other : science ≡ false → true ≡ guardPasses a science u d
-  guard-other e = passes-by false (joins a u d) (bitSet (a .held) u) refl refl e refl
-
-  pub guard-told : inPlace a u d ≡ true → science ≡ true → a .held / 2 ^ u % 2 ≡ 1 → {j : Bool} → j ≡ joins a u d → not j ≡ guardPasses a science u d
-  unfolding guardPasses unguarded
-  guard-told p s e {j} h = rw (p, s, eq-eqb (a .held / 2 ^ u % 2) 1 e, sym h) (last j)
-    where
-      last : (j : Bool) → not j ≡ not (j && true)
-      last true = refl
-      last false = refl

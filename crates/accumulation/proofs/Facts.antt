@@ -10,13 +10,13 @@ use lib.Pow.{pow-mono}
 use borrow.Author.Tests.{eqb-true, eqb-false, ltb-true, leb-true, eq-eqb, ne-eqb, lt-ltb}
 use Rattle.tables.proofs.Conds.{two, second}
 use Rattle.tables.specs.Marks.{bitSet, highest}
-use Rattle.tables.proofs.Marks.{highest-high, highest-set, bits-above, set-below}
+use Rattle.tables.proofs.Marks.{highest-high, highest-set, set-below}
 use Rattle.clock.specs.Clock.{counts, begun}
 use Rattle.clock.specs.declared.Clock.{Clock}
 use Rattle.clock.proofs.Laws.{has-begun}
-use Rattle.accumulation.specs.Accumulation.{isOpen, gap, fewest, most, joins, unguarded, stepAccumulation}
+use Rattle.accumulation.specs.Accumulation.{isOpen, gap, fewest, most, joins, stepAccumulation}
 use Rattle.accumulation.specs.List.{countsBelow, framesAmong, framesFit, othersFit, noneOpen, accumulationListed}
-use Rattle.accumulation.specs.Place.{After, inPlace, leaves, steppedAt, guardPasses}
+use Rattle.accumulation.specs.Place.{After, inPlace, steppedAt}
 use Rattle.accumulation.specs.declared.Accumulation.{Accumulation}
 
 -- the clauses, each by itself
@@ -45,10 +45,6 @@ is-listed c a f = rw (f .counted, f .among, f .fit, f .others, f .shut) (f .star
 pub first-below : (a : Accumulation) → countsBelow a ≡ true → a .first < counts
 unfolding countsBelow
 first-below a e = ltb-true (a .first) counts (two (ltb (a .first) counts) _ e .0)
-
-pub last-count : (a : Accumulation) → countsBelow a ≡ true → a .«last_count» < counts
-unfolding countsBelow
-last-count a e = ltb-true (a .«last_count») counts (two (ltb (a .first) counts) _ e .1)
 
 pub frames-36 : (a : Accumulation) → framesAmong a ≡ true → a .held < 2 ^ 36
 unfolding framesAmong
@@ -107,16 +103,6 @@ below-mark a u d f e =
     let l = types-rise a u d f e (a .«last_type») (highest-set (a .held) (a .«last_type») q) in
     omega (arith, highest-high (a .held) (a .«last_type») q, pow-mono {i = a .«last_type» + 1} {j = u} (omega arith))
 
--- so the old guard never fires
-pub guard-holds : (a : Accumulation) (science : Bool) (u d : ℕ) → framesAmong a ≡ true → unguarded a science u d ≡ true
-unfolding unguarded
-guard-holds a science u d f = go science (joins a u d) refl
-  where
-    go : (s j : Bool) → joins a u d ≡ j → not (s && (j && bitSet (a .held) u)) ≡ true
-    go false j q = refl
-    go true false q = refl
-    go true true q = rw (bits-above (a .held) u (below-mark a u d f q))
-
 -- a later count lies after the last frame and the other frames since
 module _ (c : Clock) (a : Accumulation) (e : accumulationListed c a ≡ true) (d : ℕ) (above : c .any ≡ true → c .last < d) where
   known : Frames c a
@@ -140,10 +126,6 @@ module _ (c : Clock) (a : Accumulation) (e : accumulationListed c a ≡ true) (d
   pub step-is : (science : Bool) (u : ℕ) → u < 64 → steppedAt a science u d ≡ stepAccumulation a science u d
   unfolding steppedAt
   step-is science u h = rw (in-place u h)
-
-  pub guard-is : (science : Bool) (u : ℕ) → u < 64 → guardPasses a science u d ≡ unguarded a science u d
-  unfolding guardPasses
-  guard-is science u h = rw (in-place u h)
 
 -- what being in place tells the private functions
 module _ (a : Accumulation) (u d : ℕ) (e : inPlace a u d ≡ true) where

@@ -17,7 +17,7 @@ use Rattle.clock.proofs.Laws.{not-begun}
 use Rattle.accumulation.specs.Accumulation.{noAccumulation, joins, joined, started, passed, extends, renews, passes, stepAccumulation}
 use Rattle.accumulation.specs.List.{countsBelow, framesAmong, framesFit, othersFit, noneOpen, accumulationListed}
 use Rattle.accumulation.specs.declared.Accumulation.{Accumulation}
-use Rattle.accumulation.proofs.Facts.{Frames, frames, is-listed, first-below, last-count, fits, others-last, none-zero, joins-open, below-mark, is-above}
+use Rattle.accumulation.proofs.Facts.{Frames, frames, is-listed, first-below, fits, others-last, none-zero, joins-open, below-mark, is-above}
 
 ones-zero : ones 0 ≡ 0
 unfolding ones onesIn

@@ -3,7 +3,7 @@
 use Prim.Native.Nat.{ℕ, _+_, _-_, _^_}
 use mathlib.Core.Bool.{Bool, true, false, cond, not, _&&_}
 use lib.Dec.{eqb, ltb, leb}
-use Rattle.tables.specs.Marks.{bitSet, marked}
+use Rattle.tables.specs.Marks.{marked}
 use Rattle.buffers.specs.Working.{noWork}
 use Rattle.accumulation.specs.declared.Accumulation.{Accumulation}
 use Rattle.accumulation.specs.declared.AccumulationReport.{AccumulationReport}
@@ -36,10 +36,6 @@ unfoldable pub joins : Accumulation → ℕ → ℕ → Bool
 joins a u d =
     isOpen a
     && (ltb (a .«last_type») u && (leb (fewest (a .«last_type») u) (gap a d) && leb (gap a d) (most (a .«last_type») u)))
-
--- 13: "a cell of this type is already held in the accumulation it joins (old guard)"
-unfoldable pub unguarded : Accumulation → Bool → ℕ → ℕ → Bool
-unguarded a science u d = not (science && (joins a u d && bitSet (a .held) u))
 
 abbrev pub joined : Accumulation → ℕ → ℕ → Accumulation
 joined a u d = record { first = a .first; held = marked (a .held) u; «last_type» = u; «last_count» = d; others = 0 }

@@ -2,11 +2,11 @@
 -- state that passes the list, and for every later record, it is in place (`in-place` in proofs/Facts.antt).
 -- Assumes nothing.
 use Prim.Native.Nat.{ℕ, _+_, _^_, _<_}
-use mathlib.Core.Bool.{Bool, true, cond, _&&_, _||_}
+use mathlib.Core.Bool.{Bool, cond, _&&_, _||_}
 use mathlib.Core.Path.{_≡_}
 use lib.Dec.{eqb, ltb}
 use Rattle.buffers.specs.Working.{noWork}
-use Rattle.accumulation.specs.Accumulation.{unreported, unguarded, stepAccumulation}
+use Rattle.accumulation.specs.Accumulation.{unreported, stepAccumulation}
 use Rattle.accumulation.specs.declared.Accumulation.{Accumulation}
 use Rattle.accumulation.specs.declared.AccumulationStep.{AccumulationStep}
 use Rattle.accumulation.specs.declared.Gap.the-variants.{Neither}
@@ -21,10 +21,6 @@ leaves a = record { gap = Neither; next = a; report = unreported; work = noWork 
 
 unfoldable pub steppedAt : Accumulation → Bool → ℕ → ℕ → AccumulationStep
 steppedAt a science u d = cond (inPlace a u d) (stepAccumulation a science u d) (leaves a)
-
--- and nothing is refused
-unfoldable pub guardPasses : Accumulation → Bool → ℕ → ℕ → Bool
-guardPasses a science u d = cond (inPlace a u d) (unguarded a science u d) true
 
 -- What private functions ask: count d lies after the last frame of an open accumulation and the other frames since
 abbrev pub After : Accumulation → ℕ → Type 0

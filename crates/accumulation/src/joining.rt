@@ -2,7 +2,7 @@
 ghost use mathlib.Core.Path.{_≡_};
 ghost use Prim.Native.Nat.{_-_, _≤_};
 ghost use Rattle.accumulation.specs.Accumulation.{joins};
-ghost use Rattle.accumulation.specs.Place.{After, inPlace, guardPasses};
+ghost use Rattle.accumulation.specs.Place.{After, inPlace};
 use crate::Accumulation;
 use crate::MARKS;
 
@@ -51,24 +51,4 @@ pub(crate) fn joins_at(a: Accumulation, u: u8, d: u64) -> bool
         return false;
     }
     g <= 34 + apart
-}
-
-// Rule 13, the old guard: false where the frame joins and its type is held already. The mark is looked at first: in a stream it is
-// seldom set.
-pub fn guard_passes(a: Accumulation, science: bool, u: u8, d: u64) -> bool
-    ensures { λ b. ⌜ b ≡ guardPasses a science u d ⌝ }
-{
-    if 63 < u {
-        return true;
-    }
-    if (a.held >> u) % 2 != 1 {
-        return true;
-    }
-    if !in_place(a, u, d) {
-        return true;
-    }
-    if !science {
-        return true;
-    }
-    !joins_at(a, u, d)
 }

@@ -5,7 +5,6 @@ mod list;
 mod steps;
 
 use buffers::Work;
-pub use joining::guard_passes;
 pub use list::is_listed;
 pub use steps::no_accumulation;
 pub use steps::report;

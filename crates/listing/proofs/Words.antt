@@ -19,7 +19,7 @@ use Rattle.listing.proofs.Digits.{length-decimal}
 
 -- the numbers that have a row, 0 among them
 abbrev pub rows : ℕ
-rows = 14
+rows = 13
 
 -- all of them, one after another, how many bytes they are, and where those of each number end
 abbrev pub joined : List String → List ℕ
@@ -30,10 +30,10 @@ unfoldable pub text : List ℕ
 text = joined words
 
 abbrev pub textSize : ℕ
-textSize = 400
+textSize = 324
 
 unfoldable pub ends : List ℕ
-ends = 0 ∷ 67 ∷ 83 ∷ 95 ∷ 124 ∷ 136 ∷ 150 ∷ 167 ∷ 195 ∷ 220 ∷ 238 ∷ 251 ∷ 324 ∷ 400 ∷ []
+ends = 0 ∷ 67 ∷ 83 ∷ 95 ∷ 124 ∷ 136 ∷ 150 ∷ 167 ∷ 195 ∷ 220 ∷ 238 ∷ 251 ∷ 324 ∷ []
 
 abbrev pub endOf : ℕ → ℕ
 endOf k = getD ends k 0

@@ -8,7 +8,8 @@ use Rattle.listing.specs.Text.{ascii, space}
 use Rattle.listing.specs.Decimal.{decimal, digits}
 use Rattle.listing.specs.Lines.{spaced}
 
--- 01, "Numbers a refused record gets": the second column, by the number; 0 is no number and has no words
+-- 01, "Numbers a refused record gets": the second column, by the number; 0 is no number and has no words, and 13 is none that an
+-- answer has (02, request 11)
 abbrev pub words : List String
 words =
     ""
@@ -24,7 +25,6 @@ words =
     ∷ "a flag is 00 or 11"
     ∷ "type is 58-61"
     ∷ "something was accepted before and the count isn't above the last accepted"
-    ∷ "a cell of this type is already held in the accumulation it joins (old guard)"
     ∷ []
 
 unfoldable pub wordsOf : ℕ → List ℕ
@@ -32,7 +32,7 @@ wordsOf rule = ascii (getD words rule "")
 
 -- the longest of them
 abbrev pub wordsSize : ℕ
-wordsSize = 76
+wordsSize = 73
 
 -- the words with a byte of 0 after them, as C has a text, and what is asked to be free for it
 unfoldable pub meaning : ℕ → List ℕ

@@ -28,7 +28,7 @@ use Rattle.state.specs.declared.ending.Finished.{Finished}
 use Rattle.state.proofs.Numbers.{exactly, refused-is}
 use Rattle.state.proofs.Told.{samples-mag, samples-slot, samples-first}
 use Rattle.state.proofs.Closing.{step-closes, end-closes, end-clears, cells-by-gap}
-use Rattle.state.proofs.Keeping.{step-sound, end-sound, never-13}
+use Rattle.state.proofs.Keeping.{step-sound, end-sound}
 use Rattle.reader.specs.Buffers.{Buffers, sized, clearedBy, frameLaidBy, slotLaidBy, worked}
 use Rattle.reader.specs.Steps.{input, StepIs, FinishIs}
 
@@ -98,12 +98,9 @@ module _ (s : State) (b b′ : Buffers) where
         (clearedBy (not (continues (s .major) (countAt i))) (pos 0) (b .openSamples))
     accepted-samples e = ap (λ (y : Buffers). y .openSamples) (is .left) ∙ rw (samples-mag i e, samples-slot i e, samples-first i e)
 
-    -- the state list is kept, and rule 13 can't hit
+    -- the state list is kept
     pub step-keeps : Sound s → Sound (x .state)
     step-keeps h = subst⁻¹ (λ (y : Stepped). Sound (y .state)) (is .result) (step-sound i h)
-
-    pub no-13 : answerNumber (x .answer) ≡ 13 → ⊥
-    no-13 e = never-13 i (sym (is .number) ∙ e)
 
   module _ (x : Finished) (is : FinishIs s b x b′) where
     ended-is : x .closed ≡ endedOf s (sized b) .finished .closed

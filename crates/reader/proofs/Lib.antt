@@ -2,4 +2,5 @@ pub mod Lengths
 pub mod Laid
 pub mod Outcomes
 pub mod Laws
+pub mod Guard
 pub mod Single

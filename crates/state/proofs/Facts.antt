@@ -1,7 +1,7 @@
 -- What a state that passes the list is known to be, and what a record at a later count finds in it.
 -- Assumes nothing.
 use mathlib.Core.Path.{_≡_, _∙_}
-use mathlib.Core.Bool.{Bool, true, _&&_}
+use mathlib.Core.Bool.{true}
 use Prim.Native.Nat.{ℕ, _<_}
 use Rattle.tables.proofs.Conds.{two}
 use Rattle.record.specs.Frame.{carriesMag, carriesScience}
@@ -9,12 +9,11 @@ use Rattle.record.specs.declared.Record.{Record}
 use Rattle.clock.specs.Clock.{isLater, dated, clockListed}
 use Rattle.clock.specs.declared.Clock.{Clock}
 use Rattle.clock.proofs.Laws.{dated-above}
-use Rattle.accumulation.specs.Accumulation.{unguarded}
 use Rattle.accumulation.specs.List.{accumulationListed}
 use Rattle.accumulation.specs.Place as accumulation
 use Rattle.accumulation.specs.declared.Accumulation.{Accumulation}
 use Rattle.accumulation.specs.declared.AccumulationStep.{AccumulationStep}
-use Rattle.accumulation.proofs.Facts.{step-is, guard-is}
+use Rattle.accumulation.proofs.Facts.{step-is}
 use Rattle.major.specs.List.{majorListed}
 use Rattle.major.specs.Place as major
 use Rattle.major.specs.declared.Major.{Major}
@@ -48,10 +47,6 @@ ready s f d e l q h = record { passes = e; above = λ a. rw q (dated-above (s .c
 
 -- it is in place: what the parts answer is what the decision says
 module _ (s : State) (f : Record) (d : ℕ) (r : Ready s f d) where
-  pub guard-here : accumulation.guardPasses (s .accumulation) (carriesScience (f .kind)) (f .«frame_type») d
-      ≡ unguarded (s .accumulation) (carriesScience (f .kind)) (f .«frame_type») d
-  guard-here = guard-is (s .clock) (s .accumulation) (facts s (r .passes) .accumulation) d (r .above) _ _ (r .kind)
-
   pub accumulation-here : (x : AccumulationStep) → x ≡ accumulation.steppedAt (s .accumulation) (carriesScience (f .kind)) (f .«frame_type») d
       → x ≡ inAccumulation s f d
   accumulation-here x e = e ∙ step-is (s .clock) (s .accumulation) (facts s (r .passes) .accumulation) d (r .above) _ _ (r .kind)

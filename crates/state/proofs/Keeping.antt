@@ -1,32 +1,28 @@
--- The state list is kept by step and finish; from a state that passes it rule 13 can't hit.
+-- The state list is kept by step and finish.
 -- Assumes nothing.
-use mathlib.Core.Path.{_≡_, refl, sym, subst⁻¹, _∙_}
-use mathlib.Core.Bool.{Bool, true, false, cond, _&&_, true≢false}
-use Prim.Native.Nat.{ℕ, _<_}
+use mathlib.Core.Path.{_≡_, refl, subst⁻¹}
+use mathlib.Core.Bool.{Bool, true, false, cond, _&&_}
+use Prim.Native.Nat.{_<_}
 use native.Mathlib.Omega.{arith}
 use lib.Dec.{eqb}
 use borrow.Author.Tests.{eqb-true, eqb-false}
-use Rattle.tables.proofs.Conds.{two}
-use Rattle.tables.specs.Rules.{ofPart, holdsIn, beforeHold}
-use Rattle.record.specs.Rules.{rules}
 use Rattle.clock.specs.Clock.{counts, unset, accepted, isLater, clockListed}
 use Rattle.clock.specs.declared.Clock.{Clock}
 use Rattle.clock.proofs.Laws.{dated-above, dated-below, accepted-listed, unset-listed, unset-is}
 use Rattle.accumulation.specs.Accumulation.{noAccumulation}
 use Rattle.accumulation.specs.declared.Accumulation.{Accumulation}
-use Rattle.accumulation.proofs.Facts.{frames, guard-holds}
 use Rattle.accumulation.proofs.Keeping as accumulation
 use Rattle.major.specs.Major.{noMajor}
 use Rattle.major.specs.declared.Major.{Major}
 use Rattle.major.proofs.Keeping as major
 use Rattle.state.specs.List.{fresh, listed}
-use Rattle.state.specs.Deciding.{Input, fieldsOf, countAt, magRange, stateHolds, clockHolds, guardHolds, readerRules, numberOf, acceptance, decidedOf}
+use Rattle.state.specs.Deciding.{Input, fieldsOf, countAt, magRange, clockHolds, numberOf, acceptance, decidedOf}
 use Rattle.state.specs.Ending.{ending, unended, endedOf}
-use Rattle.state.specs.Keeping.{Sound, StepKeeps, EndKeeps, Never13}
+use Rattle.state.specs.Keeping.{Sound, StepKeeps, EndKeeps}
 use Rattle.state.specs.declared.State.{State}
 use Rattle.state.specs.declared.deciding.Decided.{Decided}
 use Rattle.state.proofs.Facts.{Listed, facts, is-listed}
-use Rattle.state.proofs.Numbers.{exactly, accepted-is, refused-is}
+use Rattle.state.proofs.Numbers.{accepted-is, refused-is}
 use Rattle.state.proofs.Told.{all-pass, science-type}
 
 -- nothing open passes with every clock that passes
@@ -89,28 +85,6 @@ end-sound s sized sound = go (sized && listed s)
     go : (t : Bool) → Sound (cond t (ending s) (unended s) .finished .state)
     go true = ended-sound s sound
     go false = sound
-
--- a joining frame's type isn't held yet
-guard-so : (i : Input) → listed (i .state) ≡ true → guardHolds i ≡ true
-unfolding guardHolds
-guard-so i p =
-    let f = frames (i .state .clock) (i .state .accumulation) (facts (i .state) p .accumulation) in
-    guard-holds (i .state .accumulation) _ _ (countAt i) (f .among)
-
-fails-13 : (i : Input) → holdsIn readerRules 13 i ≡ false → guardHolds i ≡ false
-unfolding holdsIn readerRules rules ofPart
-fails-13 i e = e
-
--- rule 1 stands before rule 13
-holds-1 : (i : Input) → beforeHold readerRules 13 i ≡ true → listed (i .state) ≡ true
-unfolding beforeHold readerRules stateHolds
-holds-1 i e = two (i .sized) (listed (i .state)) (two (i .sized && listed (i .state)) _ e .0) .1
-
--- rule 13 can't hit: where it would be asked, rule 1 held (02, request 11)
-pub never-13 : (i : Input) → Never13 i
-never-13 i e =
-    let f = exactly i .fails 13 .0 (e, omega arith) in
-    true≢false (sym (guard-so i (holds-1 i (f .1))) ∙ fails-13 i (f .0))
 
 all-none : (c : Clock) (a : Accumulation) (m : Major) → c ≡ unset → a ≡ noAccumulation → m ≡ noMajor
     → _≡_ {A = State} (record { clock = c; accumulation = a; major = m }) fresh

@@ -10,33 +10,29 @@ use lib.Dec.{eqb}
 use lib.ListN.{length, length-take, length-drop}
 use borrow.Author.Tests.{eq-eqb, ne-eqb}
 use Rattle.tables.specs.Rules.{ofPart, firstBroken, FirstBroken, rule}
-use Rattle.tables.proofs.Conds.{held, fails}
 use Rattle.tables.proofs.Order.{parts-then, first-broken}
 use Rattle.record.specs.Layout.{size, packetSize, packetBytes, magBytes}
 use Rattle.record.specs.Parts.{PacketAtIs, MagIs}
 use Rattle.record.specs.Rules.{rules, broken}
 use Rattle.record.specs.Contents.{recordOf}
-use Rattle.record.specs.Frame.{carriesScience}
 use Rattle.record.specs.declared.Record.{Record}
 use Rattle.mag.specs.Samples.{range, magSized, RangeIs}
 use Rattle.mag.specs.declared.unpacking.Unpacked.{Unpacked}
 use Rattle.mag.specs.declared.unpacking.Unpacked.the-variants as unpacked
-use Rattle.clock.specs.Clock.{isLater, dated}
-use Rattle.accumulation.specs.Accumulation.{unguarded}
 use Rattle.state.specs.List.{listed}
-use Rattle.state.specs.Deciding.{Input, fieldsOf, countAt, magRange, stateHolds, clockHolds, guardHolds, readerRules, numberOf}
-use Rattle.state.specs.Deciding.{refusal, acceptance, decidedOf, answerNumber, DecidedIs, decidedAt, decidedBy}
+use Rattle.state.specs.Deciding.{Input, fieldsOf, countAt, magRange, stateHolds, clockHolds, readerRules, numberOf}
+use Rattle.state.specs.Deciding.{refusal, acceptance, decidedOf, answerNumber, DecidedIs, decidedBy}
 use Rattle.state.specs.declared.State.{State}
 use Rattle.state.specs.declared.deciding.Decided.{Decided}
 
--- rules 12 and 13
+-- rule 12
 abbrev pub late : Input → ℕ
-late i = cond (clockHolds i) (cond (guardHolds i) 0 13) 12
+late i = cond (clockHolds i) 0 12
 
 pub number-is : (i : Input) → numberOf i ≡ cond (stateHolds i) (cond (eqb (broken (i .bytes)) 0) (late i) (broken (i .bytes))) 1
 unfolding numberOf readerRules firstBroken broken rules
 number-is i =
-    let own = parts-then (λ (i : Input). i .bytes) rules (rule 12 clockHolds ∷ rule 13 guardHolds ∷ []) i refl in
+    let own = parts-then (λ (i : Input). i .bytes) rules (rule 12 clockHolds ∷ []) i refl in
     ap (λ (n : ℕ). cond (stateHolds i) n 1) own
 
 -- refused with n exactly when rule n fails and those before it in the list hold
@@ -91,33 +87,20 @@ module _ (s : State) (sized : Bool) (r : List ℕ) (x : Decided) where
       abbrev taken : Decided
       taken = acceptance s (recordOf r) (countAt handed) (magRange handed)
 
-      -- rules 12 and 13
+      -- rule 12
       pub record-decided : x ≡ decidedBy s (recordOf r) (magRange handed) → DecidedIs s sized r x
-      unfolding decidedBy decidedAt clockHolds guardHolds
-      record-decided q = go (clockHolds handed) (guardHolds handed) refl refl q
+      unfolding decidedBy clockHolds
+      record-decided q = go (clockHolds handed) refl q
         where
-          go : (a b : Bool) → clockHolds handed ≡ a → guardHolds handed ≡ b → x ≡ cond a (cond b taken (refusal s 13)) (refusal s 12)
-              → DecidedIs s sized r x
-          go false b u v w = is-refused 12 (number-late ∙ rw u) (omega arith) w
-          go true false u v w = is-refused 13 (number-late ∙ rw (u, v)) (omega arith) w
-          go true true u v w =
-              let e : numberOf handed ≡ 0 = number-late ∙ rw (u, v) in
+          go : (a : Bool) → clockHolds handed ≡ a → x ≡ cond a taken (refusal s 12) → DecidedIs s sized r x
+          go false u w = is-refused 12 (number-late ∙ rw u) (omega arith) w
+          go true u w =
+              let e : numberOf handed ≡ 0 = number-late ∙ rw u in
               let n = acceptance-number s (recordOf r) (countAt handed) (magRange handed) in
               record {
                 is = w ∙ sym (accepted-is handed e);
                 number = ap (λ (y : Decided). answerNumber (y .stepped .answer)) w ∙ n ∙ sym e;
               }
-
--- what the code of rule 13 comes to
-module _ (s : State) (f : Record) (d k : ℕ) {g : Bool} (x : Decided)
-    (guard-so : g ≡ unguarded (s .accumulation) (carriesScience (f .kind)) (f .«frame_type») d) where
-  pub guarded : not g ≡ true → x ≡ refusal s 13 → x ≡ decidedAt s f d k
-  unfolding decidedAt
-  guarded t q = rw (fails guard-so t) q
-
-  pub unharmed : not g ≡ false → x ≡ acceptance s f d k → x ≡ decidedAt s f d k
-  unfolding decidedAt
-  unharmed t q = rw (held guard-so t) q
 
 -- the range of a record's MAG bytes, from the part that the code finds
 module _ (r p m : List ℕ) (h : length r ≡ size) (from at place : ℕ × ℕ) (ep : PacketAtIs r from p at) (em : MagIs p at m place) where

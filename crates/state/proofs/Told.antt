@@ -8,8 +8,8 @@ use native.Mathlib.Omega.{arith}
 use lib.Dec.{eqb}
 use lib.ListN.{length}
 use borrow.Author.Tests.{eq-eqb, eqb-true, eqb-false}
-use Rattle.record.specs.Layout.{size, packetBytes, frameType}
-use Rattle.record.specs.Frame.{isRealTime, carriesMag, carriesScience}
+use Rattle.record.specs.Layout.{size, packetBytes}
+use Rattle.record.specs.Frame.{carriesMag, carriesScience}
 use Rattle.record.specs.Rules.{broken}
 use Rattle.record.specs.Contents.{recordOf}
 use Rattle.record.proofs.Opened as opened
@@ -19,7 +19,7 @@ use Rattle.accumulation.proofs.Closing as accumulation
 use Rattle.major.specs.Major.{slotOf, continues}
 use Rattle.major.proofs.Closing as major
 use Rattle.state.specs.List.{listed}
-use Rattle.state.specs.Deciding.{Input, fieldsOf, countAt, magRange, stateHolds, clockHolds, guardHolds, numberOf, refusal, acceptance, decidedOf}
+use Rattle.state.specs.Deciding.{Input, fieldsOf, countAt, stateHolds, clockHolds, numberOf, refusal, acceptance, decidedOf}
 use Rattle.state.specs.declared.deciding.Decided.{Decided}
 use Rattle.state.proofs.Numbers.{number-is, accepted-is, refused-is}
 
@@ -29,7 +29,6 @@ pub record Passed (i : Input) : Type 0 where
   pub listed : listed (i .state) ≡ true
   pub record-passes : broken (i .bytes) ≡ 0
   pub later : clockHolds i ≡ true
-  pub unguarded : guardHolds i ≡ true
 
 -- a test that gives a number above 0 was passed
 past : (t : Bool) (n x : ℕ) → (n ≡ 0 → ⊥) → cond t x n ≡ 0 → (t ≡ true) × (x ≡ 0)
@@ -48,10 +47,9 @@ unfolding stateHolds
 all-pass i e =
     let a = past (stateHolds i) 1 _ (λ z. omega arith) (sym (number-is i) ∙ e) in
     let b = nought (broken (i .bytes)) _ (a .1) in
-    let c = past (clockHolds i) 12 _ (λ z. omega arith) (b .1) in
-    let d = past (guardHolds i) 13 0 (λ z. omega arith) (c .1) in
+    let c = past (clockHolds i) 12 0 (λ z. omega arith) (b .1) in
     let s = two (i .sized) (listed (i .state)) (a .0) in
-    record { sized = s .0; listed = s .1; record-passes = b .0; later = c .0; unguarded = d .0 }
+    record { sized = s .0; listed = s .1; record-passes = b .0; later = c .0 }
 
 pub passed-size : (i : Input) → Passed i → length (i .bytes) ≡ size
 passed-size i p = opened.sized (i .bytes) (p .record-passes)

@@ -14,7 +14,7 @@ use Rattle.record.specs.Contents.{recordOf}
 use Rattle.record.specs.declared.Record.{Record}
 use Rattle.mag.specs.Samples.{range}
 use Rattle.clock.specs.Clock.{isLater, dated, accepted}
-use Rattle.accumulation.specs.Accumulation.{unguarded, stepAccumulation}
+use Rattle.accumulation.specs.Accumulation.{stepAccumulation}
 use Rattle.accumulation.specs.declared.AccumulationStep.{AccumulationStep}
 use Rattle.major.specs.Major.{stepMajor}
 use Rattle.major.specs.declared.MajorStep.{MajorStep}
@@ -49,13 +49,9 @@ stateHolds i = i .sized && listed (i .state)
 unfoldable pub clockHolds : Input → Bool
 clockHolds i = isLater (i .state .clock) (fieldsOf i)
 
--- 13
-unfoldable pub guardHolds : Input → Bool
-guardHolds i = unguarded (i .state .accumulation) (carriesScience (fieldsOf i .kind)) (fieldsOf i .«frame_type») (countAt i)
-
--- in 01's order; 2 to 11 are the record's own
+-- in 01's order; 2 to 11 are the record's own. 13, the old guard, can't hit and isn't among them (reader/specs/Guard.antt)
 unfoldable pub readerRules : List (Rule Input)
-readerRules = rule 1 stateHolds ∷ (ofPart (λ (i : Input). i .bytes) rules ++ (rule 12 clockHolds ∷ rule 13 guardHolds ∷ []))
+readerRules = rule 1 stateHolds ∷ (ofPart (λ (i : Input). i .bytes) rules ++ (rule 12 clockHolds ∷ []))
 
 -- the number of the first rule that fails, or 0
 unfoldable pub numberOf : Input → ℕ
@@ -100,16 +96,11 @@ pub record DecidedIs (s : State) (sized : Bool) (r : List ℕ) (x : Decided) : T
   pub is : x ≡ decidedOf (record { state = s; sized = sized; bytes = r })
   pub number : answerNumber (x .stepped .answer) ≡ numberOf (record { state = s; sized = sized; bytes = r })
 
--- Steps of the code: rule 13 at count d, rule 12 before it. Only private functions promise these.
-
-unfoldable pub decidedAt : State → Record → ℕ → ℕ → Decided
-decidedAt s f d range =
-    cond (unguarded (s .accumulation) (carriesScience (f .kind)) (f .«frame_type») d) (acceptance s f d range) (refusal s 13)
-
+-- A step of the code: rule 12. Only a private function promises this.
 unfoldable pub decidedBy : State → Record → ℕ → Decided
-decidedBy s f range = cond (isLater (s .clock) f) (decidedAt s f (dated (s .clock) f) range) (refusal s 12)
+decidedBy s f range = cond (isLater (s .clock) f) (acceptance s f (dated (s .clock) f) range) (refusal s 12)
 
--- what they ask of a record at count d
+-- what the private function asks that accepts a record at count d
 pub record Ready (s : State) (f : Record) (d : ℕ) : Type 0 where
   pub passes : listed s ≡ true
   pub above : s .clock .any ≡ true → s .clock .last < d

@@ -1,11 +1,11 @@
 -- What is said of the state list (01, "Numbers a refused record gets"): the fresh state passes it, and so does every state that is
--- handed back from one that passes; rule 13 can't hit.
+-- handed back from one that passes.
 -- Assumes nothing.
 use mathlib.Core.Bool.{Bool, true}
 use mathlib.Core.Path.{_≡_}
 use Rattle.major.specs.Shape.{Shaped}
 use Rattle.state.specs.List.{listed}
-use Rattle.state.specs.Deciding.{Input, numberOf, decidedOf}
+use Rattle.state.specs.Deciding.{Input, decidedOf}
 use Rattle.state.specs.Ending.{endedOf}
 use Rattle.state.specs.declared.State.{State}
 
@@ -19,6 +19,3 @@ StepKeeps i = Sound (i .state) → Sound (decidedOf i .stepped .state)
 
 abbrev pub EndKeeps : State → Bool → Type 0
 EndKeeps s sized = Sound s → Sound (endedOf s sized .finished .state)
-
-abbrev pub Never13 : Input → Type 0
-Never13 i = numberOf i ≡ 13 → ⊥

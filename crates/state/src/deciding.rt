@@ -1,4 +1,4 @@
-// What a record decides, from the state, the buffers' sizes and the record alone: rules 1 to 13, the next state, what is reported,
+// What a record decides, from the state, the buffers' sizes and the record alone: rules 1 to 12, the next state, what is reported,
 // and what is then to be done to the buffers.
 ghost use mathlib.Core.Bool.{true};
 ghost use mathlib.Core.Path.{_≡_};
@@ -7,7 +7,7 @@ ghost use lib.ListN.{length};
 ghost use Rattle.record.specs.Layout.{size, packetBytes, magBytes};
 ghost use Rattle.mag.specs.Samples.{range};
 ghost use Rattle.state.specs.List.{listed};
-ghost use Rattle.state.specs.Deciding.{refusal, acceptance, decidedAt, decidedBy, Ready, DecidedIs};
+ghost use Rattle.state.specs.Deciding.{refusal, acceptance, decidedBy, Ready, DecidedIs};
 use crate::State;
 use crate::closed::Closed;
 use crate::closed::Works;
@@ -113,19 +113,6 @@ fn accept(state: State, f: Record, d: u64, range: u8) -> Decided
     }
 }
 
-// A record that passes rules 1 to 12, at count d: rule 13.
-fn decide_at(state: State, f: Record, d: u64, range: u8) -> Decided
-    requires { ⌜ Ready state f d ⌝ }
-    ensures { λ x. ⌜ x ≡ decidedAt state f d range ⌝ }
-{
-    let kind = f.kind;
-    let science = record::carries_science(kind);
-    if !accumulation::guard_passes(state.accumulation, science, f.frame_type, d) {
-        return refused(state, 13);
-    }
-    accept(state, f, d, range)
-}
-
 // A record that passes rules 1 to 11: rule 12.
 fn decide_by(state: State, f: Record, range: u8) -> Decided
     requires { ⌜ (listed state ≡ true) × (f .«frame_type» < 64) ⌝ }
@@ -133,7 +120,7 @@ fn decide_by(state: State, f: Record, range: u8) -> Decided
 {
     let arrival = clock::arrival_of(state.clock, f.count);
     match arrival {
-        Arrival::At(d) => decide_at(state, f, d, range),
+        Arrival::At(d) => accept(state, f, d, range),
         Arrival::NotLater => refused(state, 12),
     }
 }

@@ -1,7 +1,7 @@
 -- Over a sent stream: what is kept is accepted, and the accumulations and the major frames handed out are those of the kept
 -- records alone, each kind by itself.
 -- Assumes nothing.
-use mathlib.Core.Path.{_≡_, refl, ap, subst, subst⁻¹, _∙_}
+use mathlib.Core.Path.{_≡_, subst, subst⁻¹, _∙_}
 use mathlib.Core.Bool.{Bool, true, false, cond, _&&_, false≢true}
 use mathlib.Core.List.{List, [], _∷_}
 use Prim.Native.Nat.{ℕ, _+_, _*_, _<_}
@@ -24,13 +24,13 @@ use Rattle.clock.proofs.Laws.{stands}
 use Rattle.major.specs.Major.{frameSamples}
 use Rattle.major.specs.declared.SlotWork.{SlotWork}
 use Rattle.state.specs.List.{listed, fresh}
-use Rattle.state.specs.Deciding.{Input, stateHolds, clockHolds, guardHolds, numberOf, decidedOf, answerNumber}
+use Rattle.state.specs.Deciding.{stateHolds, clockHolds, numberOf, decidedOf, answerNumber}
 use Rattle.state.specs.Ending.{endedOf}
 use Rattle.state.specs.Keeping.{Sound}
 use Rattle.state.specs.declared.State.{State}
 use Rattle.state.proofs.Numbers.{number-is}
 use Rattle.state.proofs.Told.{accepted-clock, slot-small}
-use Rattle.state.proofs.Keeping.{step-sound, never-13, fresh-sound}
+use Rattle.state.proofs.Keeping.{step-sound, fresh-sound}
 use Rattle.reader.specs.Buffers.{Buffers, sizedBy, sized, copiedBy, clearedBy, cellsAfter, samplesAfter}
 use Rattle.reader.specs.Steps.{input}
 use Rattle.reader.proofs.Lengths.{Sizes, sizes, length-cleared}
@@ -102,14 +102,7 @@ stands-at s b c h r e = stands (s .clock) (recordOf r) c e (h .behind)
 pub accepts : (s : State) (b : Buffers) (r : List ℕ) → Sound s → Lengths b → broken r ≡ 0 → isLater (s .clock) (recordOf r) ≡ true
     → numberOf (input s b r) ≡ 0
 unfolding stateHolds clockHolds
-accepts s b r h z e l = go (guardHolds i) refl
-  where
-    i : Input
-    i = input s b r
-
-    go : (t : Bool) → guardHolds i ≡ t → numberOf i ≡ 0
-    go true t = number-is i ∙ rw (t, is-sized b z, h .passes, eq-eqb (broken r) 0 e, l)
-    go false t = absurd (never-13 i (number-is i ∙ rw (t, is-sized b z, h .passes, eq-eqb (broken r) 0 e, l)))
+accepts s b r h z e l = number-is (input s b r) ∙ rw (is-sized b z, h .passes, eq-eqb (broken r) 0 e, l)
 
 -- and is ready for the next count
 pub moves : (s : State) (b : Buffers) (r : List ℕ) (c : ℕ) → Ready s b c → dated (s .clock) (recordOf r) ≡ c → numberOf (input s b r) ≡ 0

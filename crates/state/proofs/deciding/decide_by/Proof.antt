@@ -4,7 +4,7 @@ use Rattle.clock.proofs.Laws.{arrives, arrives-not}
 use Rattle.state.proofs.Facts.{ready}
 use mathlib.Core.Path.{sym, ap, _∙_}
 use Prim.Native.Nat.{ℕ}
-use Rattle.state.specs.Deciding.{decidedAt, decidedBy}
+use Rattle.state.specs.Deciding.{acceptance, decidedBy}
 use borrow.Author.Needs.{needs}
 use Rattle.state.proofs.deciding.decide_by.Statement.{statement}
 use Rattle.state.proofs.deciding.decide_by.Tie as tie
@@ -15,8 +15,8 @@ arrival-of-requires c κs = search needs
 enum-known-arrival : tie.Need-enum-known-arrival
 enum-known-arrival c = search needs
 
-decide-at-requires : tie.Need-decide-at-requires
-decide-at-requires c κs =
+accept-requires : tie.Need-accept-requires
+accept-requires c κs =
     let k = c .before .before .before in
     let h = k .before in
     let t = arrives (h .args .state .clock) (h .args .f) _ (sym (k .arrival-of .ensures) ∙ c .before .arrival .given .1) in
@@ -34,7 +34,7 @@ returns c =
     let k = c .before .before .before .before in
     let a = k .before .args in
     let t = arrives (a .state .clock) (a .f) _ (sym (k .arrival-of .ensures) ∙ c .before .before .arrival .given .1) in
-    rw (t .0) (c .decide-at .ensures ∙ ap (λ (d : ℕ). decidedAt (a .state) (a .f) d (a .range)) (t .1))
+    rw (t .0) (c .accept .ensures ∙ ap (λ (d : ℕ). acceptance (a .state) (a .f) d (a .range)) (t .1))
 
 returns-2 : tie.Need-returns-2
 unfolding decidedBy
@@ -49,7 +49,7 @@ decide-by-spec =
     (tie.spec
     arrival-of-requires
     enum-known-arrival
-    decide-at-requires
+    accept-requires
     enum-told
     refused-requires
     returns
