@@ -12,8 +12,9 @@
 #include <system.h>
 
 /* The stream is a ring of different records gone round many times, with counts that
- * go on rising: all of it at once would be too large for the memory. */
-enum { TYPES = 36, RING = 20000, ROUNDS = 50, REPEATS = 5 };
+ * go on rising: all of it at once would be too large for the memory. The clock restarts at 0
+ * in its first round. */
+enum { TYPES = 36, RING = 20000, ROUNDS = 50, REPEATS = 5, FIRST_COUNT = (1 << 24) - RING / 2 };
 
 static uint8_t records[RING][LPMAG_RECORD];
 static uint32_t offsets[RING]; /* of the counts in a round */
@@ -27,13 +28,13 @@ static uint32_t span;          /* the counts of a round */
 static void make_stream(void)
 {
     struct random random = {1998};
-    uint32_t turn = 0;
+    uint32_t frames = 0; /* real-time */
     uint32_t lost = 0;
     size_t made = 0;
-    for (; made < RING || turn % TYPES != 0; span++) {
+    for (; made < RING || frames % TYPES != 0; span++) {
         bool other = random_once_in(&random, 50);
-        uint32_t type = other ? random_between(&random, 36, 57) : turn % TYPES;
-        turn += !other;
+        uint32_t type = other ? random_between(&random, 36, 57) : frames % TYPES;
+        frames += !other;
         if (lost == 0 && random_once_in(&random, 500))
             lost = random_between(&random, 1, 40);
         if (lost > 0 || made == RING) {
@@ -51,7 +52,7 @@ static void make_stream(void)
 static void set_counts(uint32_t round)
 {
     for (size_t i = 0; i < RING; i++) {
-        uint32_t count = round * span + offsets[i];
+        uint32_t count = FIRST_COUNT + round * span + offsets[i];
         records[i][6] = (uint8_t)(count >> 16);
         records[i][7] = (uint8_t)(count >> 8);
         records[i][8] = (uint8_t)count;

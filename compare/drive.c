@@ -176,6 +176,25 @@ static void print_joining_met(const struct drive *drive)
     print_met("real-time frames taken, of the rarest type and slot", rarest_taken(drive->taken));
 }
 
+static void print_clock_met(const struct drive *drive)
+{
+    static const char *const ahead[JUMPS] = {
+        [NEXT_COUNT] = "1",       [BEFORE_FARTHEST] = "8,388,606",
+        [FARTHEST] = "8,388,607", [PAST_FARTHEST] = "8,388,608",
+        [TWO_PAST] = "8,388,609", [ONE_LATE] = "2^24 - 1",
+    };
+    for (enum jump jump = 0; jump < JUMPS; jump++)
+        for (size_t below = 0; below < 2; below++) {
+            print_text("records ahead by ");
+            print_text(ahead[jump]);
+            print_met(below ? ", the count below the last" : ", the count above the last",
+                      drive->jumps[jump][below]);
+        }
+    print_met("steps that begin a turn", drive->turned[BY_STEP]);
+    print_met("feeds that begin a turn", drive->turned[BY_FEED]);
+    print_met("records refused with 12 that would pass the last turn", drive->late_past_turns);
+}
+
 static void print_broken_met(const struct drive *drive, enum call call)
 {
     for (enum clause clause = 0; clause < CLAUSES; clause++) {
@@ -215,7 +234,9 @@ static void print_fed_met(const struct drive *drive)
     print_met("feed with answer 0", drive->feeds[LPMAG_OK]);
     print_met("feed with answer 1", drive->feeds[1]);
     print_met("feeds of which the last record is accepted", drive->fed[LPMAG_OK]);
-    for (unsigned number = 3; number <= 12; number++) {
+    for (unsigned number = 3; number < REFUSALS; number++) {
+        if (number == 13)
+            continue; /* no refusal's */
         print_text("feeds of which the last record is refused with ");
         print_number(number);
         print_met("", drive->fed[number]);
@@ -238,7 +259,9 @@ static void print_fed_met(const struct drive *drive)
 
 static void print_reader_met(const struct drive *drive)
 {
-    for (unsigned answer = 0; answer <= 12; answer++) {
+    for (unsigned answer = 0; answer < REFUSALS; answer++) {
+        if (answer == 13)
+            continue; /* no refusal's */
         print_text("step with answer ");
         print_number(answer);
         print_met("", drive->steps[answer]);
@@ -248,16 +271,22 @@ static void print_reader_met(const struct drive *drive)
     print_fed_met(drive);
     print_closed_met(drive);
     print_joining_met(drive);
+    print_clock_met(drive);
     print_met("states at random that keep the list", drive->passing);
     for (enum call call = 0; call < CALLS; call++) {
         print_broken_met(drive, call);
         print_structs_met(drive, call);
     }
+    print_met("streams sent in order and kept in more than one turn", drive->sent_turned);
+    print_met("streams of which the first turn is lost", drive->sent_late);
+    print_met("streams that end in the last turn", drive->sent_to_the_end);
     print_met("records kept of those sent in order", drive->sent_kept);
     print_met("real-time ones of them", drive->sent_real_time);
+    print_met("records kept with as many lost before them as can be", drive->sent_farthest);
     print_met("accumulations handed out whole", drive->accumulations_whole);
     print_met("accumulations handed out in part", drive->accumulations_part);
     print_met("accumulations torn", drive->accumulations_torn);
+    print_met("accumulations handed out with frames of two turns", drive->accumulations_across);
     print_met("major frames handed out whole", drive->majors_whole);
     print_met("major frames handed out in part", drive->majors_part);
 }
@@ -282,6 +311,7 @@ static void print_all_met(const struct drive *drive)
     print_met("other packets", drive->kinds[LPMAG_OTHER]);
     print_met("undefined packets", drive->kinds[LPMAG_UNDEFINED]);
     print_met("words of the rarest refusal among 1 to 12", rarest(drive->words + 1, 12));
+    print_met("words of refusal 14", drive->words[14]);
     print_met("words of another number", drive->words[0]);
     print_met("words in a room that is too small", drive->words_not_given);
     print_met("MAG bytes, of the rarest range among 0 to 7", rarest(drive->ranges, 8));
@@ -309,6 +339,7 @@ int main(int argc, char **argv)
     drive_counts(&drive);
     drive_questions(&drive);
     drive_reader(&drive);
+    drive_turns(&drive);
     drive_feed(&drive);
     drive_sent(&drive);
     drive_states(&drive);

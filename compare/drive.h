@@ -83,6 +83,11 @@ const char *clause_name(enum clause clause);
  * g is u - t - 2, u - t - 1, 34 + (u - t), 35 + (u - t). */
 enum edge { ONE_BELOW, LEAST, MOST, ONE_ABOVE, EDGES };
 
+/* The edges of what is later (02, request 1), on either side. A record is ahead of the last
+ * accepted, modulo 2^24, by 1; by 8,388,606 to 8,388,609, of which two are later; by 2^24 - 1,
+ * being one count late. */
+enum jump { NEXT_COUNT, BEFORE_FARTHEST, FARTHEST, PAST_FARTHEST, TWO_PAST, ONE_LATE, JUMPS };
+
 /* What is lent to the reader's functions to write: the buffers, which have a size that
  * can be wrong, the state, and what the call tells (its report, what it was fed or what
  * it closed). */
@@ -106,6 +111,9 @@ enum call { BY_STEP, BY_FEED, BY_FINISH, CALLS };
  * accumulation, of 8, 16 and 32 bits each, then the major frame's 32. */
 enum { SPARES = 8 + 16 + 32, SPARE_BITS = 2 * SPARES + 32 };
 
+/* The numbers of refusals are below this, and 0 is none; 13 is no refusal's. */
+enum { REFUSALS = 15 };
+
 /* How many whole records there are, for counting what is fed. */
 enum given { NO_RECORD, ONE_RECORD, MANY_RECORDS, GIVEN };
 
@@ -121,7 +129,7 @@ struct drive {
     uint64_t records;                         /* through every function of a record */
     uint64_t refusals[12];                    /* by number; 0 where a record passes */
     uint64_t kinds[LPMAG_UNDEFINED + 1];      /* of whole packets */
-    uint64_t words[13];                       /* given, by number of the refusal; 0 for any other */
+    uint64_t words[REFUSALS];                 /* given, by number of the refusal; 0 for any other */
     uint64_t words_not_given;                 /* the room being too small */
     uint64_t ranges[LPMAG_NO_SUCH_PLACE + 1]; /* answered for samples */
 
@@ -137,7 +145,7 @@ struct drive {
     uint64_t angles[LPMAG_NO_SUCH_BIN + 1];
 
     /* And of the reader. */
-    uint64_t steps[13];                    /* by answer */
+    uint64_t steps[REFUSALS];              /* by answer */
     uint64_t feeds[2];                     /* by answer */
     uint64_t finishes[2];                  /* by answer */
     uint64_t fresh[CALLS];                 /* calls of answer 0 with the fresh state */
@@ -148,6 +156,9 @@ struct drive {
     uint64_t not_above[36][36];            /* frames of a type not above the last, likewise */
     uint64_t past_others[LPMAG_JOINS + 1]; /* frames after other frames, by what became of them */
     uint64_t taken[36][16];                /* real-time frames, by type and slot */
+    uint64_t jumps[JUMPS][2];              /* good records, by whether the count is below the last */
+    uint64_t turned[CALLS];                /* calls that begin a turn */
+    uint64_t late_past_turns;              /* good records that break 14 too and are refused with 12 */
     uint64_t broken[CALLS][CLAUSES];       /* states that break one clause alone */
     uint64_t passing;                      /* states made at random that break none */
     uint64_t wrong_sizes[CALLS][SIZED];    /* alone */
@@ -156,20 +167,25 @@ struct drive {
     uint64_t structs[CALLS];               /* told, with all fields known and different */
 
     /* And of what is fed. */
-    uint64_t fed[13];                  /* feeds of answer 0 that took a record, by what it was answered */
+    uint64_t fed[REFUSALS];            /* feeds of answer 0 that took a record, by what it was answered */
     uint64_t fed_taken[GIVEN];         /* feeds of answer 0, by the records taken */
     uint64_t fed_left[2][GIVEN];       /* by whether a part of a record is left, and by the records left */
     uint64_t fed_broken[2][GIVEN];     /* refused for a size or for the state, by the records given */
     uint64_t fed_lengths[3 * 472 + 2]; /* given, up to three records and a byte */
 
     /* And of streams sent in order. */
-    uint64_t sent_kept;           /* records, real-time or other */
-    uint64_t sent_real_time;      /* the real-time ones of them */
-    uint64_t accumulations_whole; /* handed out with all 36 frames */
-    uint64_t accumulations_part;  /* with fewer */
-    uint64_t accumulations_torn;  /* that were sent and handed out in more than one */
-    uint64_t majors_whole;        /* handed out with all 16 slots */
-    uint64_t majors_part;         /* with fewer */
+    uint64_t sent_turned;          /* streams kept in more than one turn */
+    uint64_t sent_late;            /* streams of which the first turn was lost */
+    uint64_t sent_to_the_end;      /* streams that end in the last turn */
+    uint64_t sent_kept;            /* records, real-time or other */
+    uint64_t sent_real_time;       /* the real-time ones of them */
+    uint64_t sent_farthest;        /* of those kept: with as many lost before as can be */
+    uint64_t accumulations_whole;  /* handed out with all 36 frames */
+    uint64_t accumulations_part;   /* with fewer */
+    uint64_t accumulations_torn;   /* that were sent and handed out in more than one */
+    uint64_t accumulations_across; /* handed out with frames of two turns */
+    uint64_t majors_whole;         /* handed out with all 16 slots */
+    uint64_t majors_part;          /* with fewer */
 };
 
 /* Names what is compared next, in the output too: should an implementation break
@@ -212,6 +228,7 @@ void drive_cells(struct drive *drive);
 void drive_counts(struct drive *drive);
 void drive_questions(struct drive *drive);
 void drive_reader(struct drive *drive);
+void drive_turns(struct drive *drive);
 void drive_feed(struct drive *drive);
 void drive_sent(struct drive *drive);
 void drive_states(struct drive *drive);

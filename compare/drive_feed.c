@@ -12,11 +12,12 @@ static const struct lpmag_state fresh;
 /* ---- lengths ---------------------------------------------------------- */
 
 /* So many records from a slot on, of one accumulation: of those in one major frame none
- * has anything to tell. */
+ * has anything to tell. Often it is the last of the turn. */
 static void make_quiet(struct random *random, struct row *row, uint32_t slot, uint32_t records)
 {
     struct input input;
-    uint64_t first = SLOTS * random_below(random, (uint32_t)(COUNTS / SLOTS) - 2) + slot;
+    uint64_t last = ROUND / SLOTS - 1;
+    uint64_t first = SLOTS * (random_once_in(random, 4) ? last : random_to(random, last)) + slot;
     uint8_t type = (uint8_t)random_below(random, TYPES - records);
     row_clear(row);
     for (uint32_t i = 0; i < records; i++) {
@@ -66,7 +67,14 @@ static void compare_row(struct drive *drive, struct reader *reader, const struct
         taken += compare_feed(drive, reader, row, taken, row_left(row, taken));
 }
 
-/* Good records, so many of them before one that breaks a rule from 3 to 12. */
+/* The count of a record that is refused with that number if all else about it is right, or of
+ * one that is accepted. */
+static uint64_t count_for(struct random *random, unsigned rule, uint64_t last)
+{
+    return rule == 12 ? stream_late(random, last) : rule == 14 ? stream_past(random, last) : last + 1;
+}
+
+/* Good records, so many of them before one that breaks a rule from 3 on. */
 static void compare_refused_at(struct drive *drive, unsigned rule, uint32_t form, unsigned place)
 {
     static struct reader reader;
@@ -76,15 +84,14 @@ static void compare_refused_at(struct drive *drive, unsigned rule, uint32_t form
     struct input input;
     do
         state = any_state(random, random_once_in(random, 2), random_once_in(random, 2));
-    while (state.last > COUNTS - 8);
+    while (state.last > COUNTS - 8 || (rule == 14 && !stream_can_pass(state.last)));
 
     uint64_t last = state.last;
     row_clear(&row);
     for (unsigned i = 0; i < place + 3; i++) {
         uint8_t type = random_once_in(random, 4) ? (uint8_t)random_below(random, TYPES) : other_type(random);
         if (i == place) {
-            input_make(random, &input, rule == 12 ? random_between(random, 0, (uint32_t)last) : last + 1,
-                       type);
+            input_make(random, &input, count_for(random, rule, last), type);
             if (rule <= GENERATE_LAST_RULE)
                 spoil_form(random, input.record, rule, form);
             row_add(&row, &input, (uint8_t)rule);
@@ -98,11 +105,18 @@ static void compare_refused_at(struct drive *drive, unsigned rule, uint32_t form
     compare_row(drive, &reader, &row);
 }
 
+/* Rules 12 and 14 are broken by any of many counts, about as often as others by their forms; 13
+ * is no rule and has none. */
+static uint32_t forms_of(unsigned rule)
+{
+    return rule == 12 || rule == 14 ? 8 : spoil_forms(rule);
+}
+
 static void compare_refused(struct drive *drive)
 {
     begin(drive, "feed with a record that breaks one rule, in each form, at every place");
-    for (unsigned rule = GENERATE_FIRST_RULE + 1; rule <= 12; rule++)
-        for (uint32_t form = 0; form < (rule == 12 ? 8 : spoil_forms(rule)); form++)
+    for (unsigned rule = GENERATE_FIRST_RULE + 1; rule < REFUSALS; rule++)
+        for (uint32_t form = 0; form < forms_of(rule); form++)
             for (unsigned place = 0; place < 5; place++)
                 for (unsigned i = 0; i < 4; i++)
                     compare_refused_at(drive, rule, form, place);
@@ -117,11 +131,10 @@ static void make_stream(struct random *random, struct row *row)
     uint64_t last = COUNTS; /* accepted; none so far */
     uint8_t last_type = 0;
     row_clear(row);
-    for (unsigned i = 0; i < 300 && count < COUNTS; i++) {
+    for (unsigned i = 0; i < 300; i++) {
         uint8_t type = stream_type(random, last_type);
         if (last < COUNTS && random_once_in(random, 16)) {
-            uint64_t before = random_once_in(random, 2) ? last : random_between(random, 0, (uint32_t)last);
-            input_make(random, &input, before, type);
+            input_make(random, &input, stream_late(random, last), type);
             row_add(row, &input, 12);
             continue;
         }

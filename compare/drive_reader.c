@@ -85,10 +85,10 @@ static void compare_gap(struct drive *drive, uint8_t t, uint8_t u, uint32_t g, u
 {
     static struct reader reader;
     uint32_t between = g + others;
-    uint32_t last = (uint32_t)COUNTS - 2 - between; /* for which u has the largest count */
-    uint64_t count = random_once_in(&drive->random, 4)   ? last
+    uint64_t turned = ROUND - 1 - random_below(&drive->random, between + 1); /* u is in the next turn */
+    uint64_t count = random_once_in(&drive->random, 4)   ? turned
                      : random_once_in(&drive->random, 4) ? 0
-                                                         : random_between(&drive->random, 0, last);
+                                                         : random_to(&drive->random, ROUND - 1);
     reader_make(&drive->random, &reader, &fresh);
     step_with(drive, &reader, count, t);
     for (; between > 0; between--) {
@@ -126,6 +126,26 @@ static void compare_gaps(struct drive *drive)
             }
 }
 
+/* A type that rises by one, with g so many whole turns: none joins, though 24 bits tell of no
+ * loss. Other frames come on the way, since no record is later by as much. */
+static void compare_turns_lost(struct drive *drive)
+{
+    static struct reader reader;
+    begin(drive, "the next type, whole turns after the last");
+    for (uint64_t turns = 1; turns <= 40; turns++) {
+        uint64_t first = stream_first(&drive->random);
+        uint64_t last = first;
+        uint64_t next = first + 1 + turns * ROUND;
+        reader_make(&drive->random, &reader, &fresh);
+        step_with(drive, &reader, first, 5);
+        for (; next - last > AHEAD; next++) {
+            last += AHEAD;
+            step_with(drive, &reader, last, other_type(&drive->random));
+        }
+        expect_fate(drive, next, 6, step_with(drive, &reader, next, 6), LPMAG_OPENS);
+    }
+}
+
 /* ---- streams of anything ---------------------------------------------- */
 
 static void compare_stream(struct drive *drive)
@@ -137,12 +157,10 @@ static void compare_stream(struct drive *drive)
     reader_make(random, &reader, &fresh);
     if (random_once_in(random, 8))
         compare_finish(drive, &reader, LPMAG_OK);
-    for (unsigned i = 0; i < 400 && count < COUNTS; i++) {
+    for (unsigned i = 0; i < 400; i++) {
         uint8_t type = stream_type(random, reader.state.accumulation.last_type);
         if (reader.state.any && random_once_in(random, 16)) {
-            uint32_t last = (uint32_t)reader.state.last;
-            uint32_t before = random_once_in(random, 2) ? last : random_between(random, 0, last);
-            input_make(random, &input, before, type);
+            input_make(random, &input, stream_late(random, reader.state.last), type);
             compare_step(drive, &reader, &input, 12);
             continue;
         }
@@ -170,7 +188,8 @@ void drive_reader(struct drive *drive)
     compare_joining_examples(drive);
     compare_listing_example(drive);
     compare_gaps(drive);
-    begin(drive, "streams of any types, with counts left out, repeated and falling, and finish anywhere");
+    compare_turns_lost(drive);
+    begin(drive, "streams of any types, with counts left out, repeated and late, and finish anywhere");
     for (unsigned i = 0; i < 500; i++)
         compare_stream(drive);
 }

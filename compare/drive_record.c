@@ -316,8 +316,8 @@ static void compare_kinds(struct drive *drive)
 
 /* ---- the words of a refusal ------------------------------------------- */
 
-/* 01, "Numbers a refused record gets", the second column up to 12 (13 is gone by 02,
- * request 11); none before the first. */
+/* 01, "Numbers a refused record gets", the second column, with 12 and 14 of 02's request 1 (13
+ * is gone by request 11); none before the first. */
 static const char *expected_words(unsigned number)
 {
     static const char *const words[] = {
@@ -333,9 +333,11 @@ static const char *expected_words(unsigned number)
         [9] = "a spare status bit is set",
         [10] = "a flag is 00 or 11",
         [11] = "type is 58-61",
-        [12] = "something was accepted before and the count isn't above the last accepted",
+        [12] = "something was accepted before and the record isn't later",
+        [13] = "",
+        [14] = "a turn past 4,095",
     };
-    return number <= 12 ? words[number] : words[0];
+    return number < REFUSALS ? words[number] : words[0];
 }
 
 static void compare_words(struct drive *drive, uint8_t number, size_t room_length)
@@ -358,7 +360,7 @@ static void compare_words(struct drive *drive, uint8_t number, size_t room_lengt
         expected[length] = 0;
         expect_bytes(drive, &question, "the room isn't 01's words, a 0 and what was found",
                      room_of_bytes(&rooms, &rooms.first), expected, room_length);
-        drive->words[number <= 12 ? number : 0]++;
+        drive->words[length > 0 ? number : 0]++;
     } else {
         drive->words_not_given++;
     }

@@ -3,6 +3,7 @@
 #include "states.h"
 
 #include "electrons.h"
+#include "streams.h"
 
 #include <system.h>
 
@@ -151,19 +152,41 @@ static void break_rule_1(struct random *random, struct reader *reader)
     }
 }
 
-/* The rules broken are a set of bits, from 1 to 12; the lowest has to win. */
+/* 02, request 1. Rule 14 is broken by a count below the last accepted's in the last turn, also
+ * where it isn't later. */
+static bool past_turns(const struct lpmag_state *state, uint64_t own)
+{
+    return state->last / ROUND == 4095 && own < state->last % ROUND;
+}
+
+/* A state, and the count of a record that breaks these of rules 12 and 14 after it and keeps the
+ * other; most states and counts don't serve. */
+static uint64_t count_that_breaks(struct random *random, bool late, bool past, struct lpmag_state *state)
+{
+    uint64_t count;
+    do {
+        *state = any_state_with_a_next(random);
+        count = state->last + 1;
+        if (late)
+            count = stream_late(random, state->last);
+        else if (past && stream_can_pass(state->last))
+            count = stream_past(random, state->last);
+    } while (past_turns(state, count % ROUND) != past);
+    return count;
+}
+
+/* The rules broken are a set of bits; the lowest has to win. */
 static void compare_rules_broken(struct drive *drive, uint32_t rules)
 {
     static struct reader reader;
     struct random *random = &drive->random;
-    struct lpmag_state state = any_state_with_a_next(random);
+    struct lpmag_state state;
     struct input input;
     uint8_t lowest = 0;
-    bool late = rules >> 12 & 1;
+    uint64_t count = count_that_breaks(random, rules >> 12 & 1, rules >> 14 & 1, &state);
     reader_make(random, &reader, &state);
-    input_make(random, &input, late ? random_between(random, 0, (uint32_t)state.last) : state.last + 1,
-               (uint8_t)random_below(random, TYPES));
-    for (uint8_t rule = 12; rule >= 1; rule--) {
+    input_make(random, &input, count, (uint8_t)random_below(random, TYPES));
+    for (uint8_t rule = REFUSALS - 1; rule >= 1; rule--) {
         if ((rules >> rule & 1) == 0)
             continue;
         if (rule <= GENERATE_LAST_RULE && rule >= GENERATE_FIRST_RULE)
@@ -180,16 +203,22 @@ static void compare_rules_broken(struct drive *drive, uint32_t rules)
 
 static void compare_several_rules_broken(struct drive *drive)
 {
+    static const uint8_t rules[] = {1, 2, 3, 4, 5, 6, 7, 8, 9, 10, 11, 12, 14};
+    enum { RULES = sizeof rules };
     begin(drive, "the reader with two rules broken, every pair");
-    for (unsigned one = 1; one <= 12; one++)
-        for (unsigned other = one + 1; other <= 12; other++)
+    for (unsigned one = 0; one < RULES; one++)
+        for (unsigned other = one + 1; other < RULES; other++)
             for (unsigned i = 0; i < 100; i++)
-                compare_rules_broken(drive, 1u << one | 1u << other);
+                compare_rules_broken(drive, 1u << rules[one] | 1u << rules[other]);
 
     begin(drive, "the reader with any set of rules broken");
-    for (uint32_t set = 0; set < 1u << 12; set++)
-        for (unsigned i = 0; i < 4; i++)
-            compare_rules_broken(drive, set << 1);
+    for (uint32_t set = 0; set < 1u << RULES; set++)
+        for (unsigned i = 0; i < 4; i++) {
+            uint32_t broken = 0;
+            for (unsigned rule = 0; rule < RULES; rule++)
+                broken |= (set >> rule & 1) << rules[rule];
+            compare_rules_broken(drive, broken);
+        }
 }
 
 void drive_refusals(struct drive *drive)

@@ -8,8 +8,7 @@
 
 #include <system.h>
 
-/* Turns are counted from a type 0, and up to a type 35. */
-enum { MOST_SENT = 1500, NONE = MOST_SENT, MOST_TURNS = MOST_SENT + 2 * TYPES };
+enum { MOST_SENT = 1500, NONE = MOST_SENT };
 
 /* Like random_once_in, but never for NEVER. */
 enum { NEVER = 0 };
@@ -26,47 +25,33 @@ enum fate { KEPT, LOST, SPOILED };
 struct sent {
     struct input input;
     bool real_time;
-    size_t turn; /* of a real-time one: its type and 36 times its round */
+    uint64_t at;   /* counted on from the first record's own count, past 2^24 too */
+    uint64_t rank; /* of the next real-time frame, this one if it is: its type and 36 times its round */
     enum fate fate;
-    bool finished;       /* finish is called after it */
-    unsigned in_cells;   /* the accumulations handed out that hold it */
-    size_t accumulation; /* the last of these */
-    unsigned in_slots;   /* the major frames handed out that hold it */
+    uint64_t lost_before; /* counts right before it, of which there is no record here */
+    bool finished;        /* finish is called after it */
+    unsigned in_cells;    /* the accumulations handed out that hold it */
+    size_t accumulation;  /* the last of these */
+    unsigned in_slots;    /* the major frames handed out that hold it */
 };
 
 struct stream {
     size_t length;
-    uint32_t first; /* count; they rise by one */
     struct sent sent[MOST_SENT];
-    size_t of_turn[MOST_TURNS]; /* which record, or NONE */
-    size_t accumulations;       /* handed out so far */
-    size_t cells;               /* filled in them */
-    size_t slots;               /* held in the major frames handed out */
-    size_t samples;             /* filled in them */
+    struct lpmag_state before; /* the reader's */
+    uint64_t offset;           /* what full counts are more than `at`, modulo 2^64 */
+    size_t accumulations;      /* handed out so far */
+    size_t cells;              /* filled in them */
+    size_t slots;              /* held in the major frames handed out */
+    size_t samples;            /* filled in them */
 };
 
-/* Real-time types go round and round, from any; so many of a hundred records are
- * other frames. */
+/* So many of a hundred records are other frames. */
 static void make_sent(struct random *random, struct stream *stream, uint32_t others)
 {
-    size_t turn = random_below(random, TYPES);
     stream->length = random_between(random, 1, MOST_SENT);
-    uint32_t last = (uint32_t)COUNTS - (uint32_t)stream->length;
-    stream->first = random_once_in(random, 4)   ? 0
-                    : random_once_in(random, 4) ? last
-                                                : random_between(random, 0, last);
-    for (size_t i = 0; i < MOST_TURNS; i++)
-        stream->of_turn[i] = NONE;
-    for (size_t i = 0; i < stream->length; i++) {
-        struct sent *sent = &stream->sent[i];
-        *sent = (struct sent){.real_time = random_below(random, 100) >= others};
-        uint8_t type = sent->real_time ? (uint8_t)(turn % TYPES) : other_type(random);
-        input_make(random, &sent->input, stream->first + i, type);
-        if (sent->real_time) {
-            sent->turn = turn;
-            stream->of_turn[turn++] = i;
-        }
-    }
+    for (size_t i = 0; i < stream->length; i++)
+        stream->sent[i] = (struct sent){.real_time = random_below(random, 100) >= others};
 }
 
 /* Losses begin once in so many records and last from one length to another. */
@@ -89,6 +74,138 @@ static void lose(struct random *random, struct stream *stream, struct losses los
     }
 }
 
+/* All up to a record, too. */
+static void lose_beginning(struct random *random, struct stream *stream)
+{
+    uint32_t lost = random_below(random, (uint32_t)stream->length);
+    for (size_t i = 0; i < lost; i++)
+        stream->sent[i].fate = LOST;
+}
+
+/* The records from one on that aren't kept, up to the next one that is. */
+static uint64_t not_kept_from(const struct stream *stream, size_t which)
+{
+    uint64_t row = 0;
+    for (size_t i = which; i < stream->length && stream->sent[i].fate != KEPT; i++)
+        row++;
+    return row;
+}
+
+/* Now and then very many in a row, of which there is no record here: with those beside them
+ * "fewer than 8,388,607 counts in a row go unaccepted" (02, request 1). */
+static void lose_far(struct random *random, struct stream *stream, uint32_t times)
+{
+    uint64_t row = 0; /* lost since the last record kept */
+    for (size_t i = 0; i < stream->length; i++) {
+        struct sent *sent = &stream->sent[i];
+        if (once_in(random, times)) {
+            uint64_t most = AHEAD - 1 - row - not_kept_from(stream, i);
+            sent->lost_before = random_once_in(random, 2) ? most : random_to(random, most);
+        }
+        row = sent->fate == KEPT ? 0 : row + sent->lost_before + 1;
+    }
+}
+
+/* ---- counts and types ------------------------------------------------- */
+
+/* Often the first count of the next turn is among the records. */
+static uint64_t first_sent(struct random *random, const struct stream *stream)
+{
+    switch (random_below(random, 4)) {
+    case 0:
+        return 0;
+    case 1:
+    case 2:
+        return ROUND - random_between(random, 1, (uint32_t)stream->length);
+    default:
+        return random_to(random, ROUND - 1);
+    }
+}
+
+/* Real-time types go round and round, from any; of those that were lost far all are real-time
+ * frames, or none or any. Makes the records. */
+static void number_sent(struct random *random, struct stream *stream)
+{
+    uint64_t at = first_sent(random, stream);
+    uint64_t rank = random_below(random, TYPES);
+    for (size_t i = 0; i < stream->length; i++) {
+        struct sent *sent = &stream->sent[i];
+        const uint64_t lost[] = {sent->lost_before, 0, random_to(random, sent->lost_before)};
+        at += sent->lost_before;
+        rank += lost[random_below(random, 3)];
+        sent->at = at++;
+        sent->rank = rank;
+        rank += sent->real_time;
+        input_make(random, &sent->input, sent->at,
+                   sent->real_time ? (uint8_t)(sent->rank % TYPES) : other_type(random));
+    }
+}
+
+/* The first record kept, or the last; NONE if there is none. */
+static size_t first_kept(const struct stream *stream)
+{
+    for (size_t i = 0; i < stream->length; i++)
+        if (stream->sent[i].fate == KEPT)
+            return i;
+    return NONE;
+}
+
+static size_t last_kept(const struct stream *stream)
+{
+    for (size_t i = stream->length; i-- > 0;)
+        if (stream->sent[i].fate == KEPT)
+            return i;
+    return NONE;
+}
+
+static uint64_t full_count_of(const struct stream *stream, const struct sent *sent)
+{
+    return sent->at + stream->offset;
+}
+
+/* The record of a full count, or null. */
+static struct sent *sent_at(struct stream *stream, uint64_t count)
+{
+    uint64_t at = count - stream->offset;
+    size_t low = 0;
+    size_t high = stream->length;
+    while (low < high) {
+        size_t middle = (low + high) / 2;
+        if (stream->sent[middle].at < at)
+            low = middle + 1;
+        else
+            high = middle;
+    }
+    return low < stream->length && stream->sent[low].at == at ? &stream->sent[low] : NULL;
+}
+
+/* "the first accepted record has turn 0", whatever was sent before it. Or the reader has read
+ * before, up to any turn from which the stream "ends within turn 4,095" (02, request 1), and the
+ * first record kept is later. */
+static void begin_counts(struct drive *drive, struct stream *stream)
+{
+    struct random *random = &drive->random;
+    stream->before = (struct lpmag_state){0};
+    stream->offset = 0;
+    if (first_kept(stream) == NONE)
+        return;
+    uint64_t first = stream->sent[first_kept(stream)].at;
+    uint64_t last = stream->sent[last_kept(stream)].at;
+    if (random_once_in(random, 4)) {
+        uint64_t turns = (COUNTS - 1 - last) / ROUND;
+        stream->offset = ROUND * (random_once_in(random, 2) ? turns : random_to(random, turns));
+        uint64_t count = first + stream->offset;
+        uint64_t ahead = 1 + random_to(random, AHEAD - 1);
+        if (count >= ahead)
+            stream->before = (struct lpmag_state){.last = count - ahead, .any = 1};
+    } else {
+        stream->offset = 0 - first / ROUND * ROUND;
+        drive->sent_late += stream->sent[0].at / ROUND < first / ROUND;
+    }
+    drive->sent_turned += first / ROUND < last / ROUND;
+    drive->sent_to_the_end += (last + stream->offset) / ROUND == 4095;
+}
+
 /* ---- what is handed out ----------------------------------------------- */
 
 static void expect_true(struct drive *drive, enum function function, bool holds, const char *what,
@@ -105,25 +222,28 @@ static void take_accumulation(struct drive *drive, struct stream *stream, enum f
 {
     uint8_t expected[LPMAG_CELLS] = {0};
     struct question question = {function, NULL, 0, {{"accumulation from count", first}, {"held", held}}};
-    expect_true(drive, function, first >= stream->first && first - stream->first < stream->length,
-                "an accumulation starts with a count that was sent", first);
-    const struct sent *start = &stream->sent[first - stream->first];
-    expect_true(drive, function, start->real_time && held <= ALL_HELD && held >> start->turn % TYPES & 1,
+    const struct sent *end = stream->sent + stream->length;
+    struct sent *start = sent_at(stream, first);
+    expect_true(drive, function, start != NULL, "an accumulation starts with a count that was sent", first);
+    expect_true(drive, function, start->real_time && held <= ALL_HELD && held >> start->rank % TYPES & 1,
                 "an accumulation holds the frame of its first count", first);
 
-    for (size_t type = 0; type < TYPES; type++) {
-        if ((held >> type & 1) == 0)
+    uint64_t found = 0;
+    uint64_t last = first;
+    for (struct sent *sent = start; sent < end && sent->rank / TYPES == start->rank / TYPES; sent++) {
+        size_t type = sent->rank % TYPES;
+        if (!sent->real_time || (held >> type & 1) == 0)
             continue;
-        size_t which = stream->of_turn[start->turn / TYPES * TYPES + type];
-        expect_true(drive, function, which != NONE && stream->sent[which].fate == KEPT,
+        expect_true(drive, function, sent->fate == KEPT,
                     "an accumulation holds only frames that were kept, type", type);
-        struct sent *sent = &stream->sent[which];
-        expect_true(drive, function, sent >= start, "no frame comes before the first, type", type);
         lay_expected(sent->input.content.code, sent->input.record + LPMAG_PACKET_AT + LPMAG_SCIENCE_AT,
                      expected);
         sent->in_cells++;
         sent->accumulation = stream->accumulations;
+        found |= (uint64_t)1 << type;
+        last = full_count_of(stream, sent);
     }
+    expect_true(drive, function, found == held, "all frames held were sent from the first on, held", held);
     expect_bytes(drive, &question, "the cells handed out aren't those of the frames held", cells, expected,
                  sizeof expected);
     stream->accumulations++;
@@ -132,6 +252,7 @@ static void take_accumulation(struct drive *drive, struct stream *stream, enum f
         drive->accumulations_whole++;
     else
         drive->accumulations_part++;
+    drive->accumulations_across += first / ROUND < last / ROUND;
 }
 
 /* A major frame: each slot held is that of a record kept, with its subcom word, and
@@ -144,9 +265,8 @@ static void take_major(struct drive *drive, struct stream *stream, enum function
     for (unsigned slot = 0; slot < SLOTS; slot++) {
         bool held = major->slots >> slot & 1;
         uint64_t count = SLOTS * major->number + slot;
-        bool was_sent = count >= stream->first && count - stream->first < stream->length;
-        struct sent *sent = was_sent ? &stream->sent[count - stream->first] : NULL;
-        expect_true(drive, function, !held || (was_sent && sent->fate == KEPT),
+        struct sent *sent = sent_at(stream, count);
+        expect_true(drive, function, !held || (sent != NULL && sent->fate == KEPT),
                     "a slot held is that of a record kept, count", count);
 
         bool mag = held && sent->real_time;
@@ -186,8 +306,6 @@ static void take_closed(struct drive *drive, struct stream *stream, enum functio
 
 /* ---- the run ---------------------------------------------------------- */
 
-static const struct lpmag_state fresh;
-
 /* The last real-time record kept before this one, since finish was called; NONE if
  * there is none. */
 static size_t kept_before(const struct stream *stream, size_t which)
@@ -198,12 +316,13 @@ static size_t kept_before(const struct stream *stream, size_t which)
     return NONE;
 }
 
-/* g: the counts strictly between two that weren't accepted, one by one. */
-static size_t not_kept_between(const struct stream *stream, size_t one, size_t other)
+/* g: the counts strictly between two that weren't accepted, one by one but for those that were
+ * lost far. */
+static uint64_t not_kept_between(const struct stream *stream, size_t one, size_t other)
 {
-    size_t g = 0;
+    uint64_t g = stream->sent[other].lost_before;
     for (size_t i = one + 1; i < other; i++)
-        g += stream->sent[i].fate != KEPT;
+        g += stream->sent[i].lost_before + (stream->sent[i].fate != KEPT);
     return g;
 }
 
@@ -217,25 +336,34 @@ static uint8_t fate_of(const struct stream *stream, size_t which)
     if (before == NONE)
         return LPMAG_OPENS;
 
-    int g = (int)not_kept_between(stream, before, which);
-    int t = (int)(stream->sent[before].turn % TYPES);
-    int u = (int)(sent->turn % TYPES);
+    uint64_t g = not_kept_between(stream, before, which);
+    uint64_t t = stream->sent[before].rank % TYPES;
+    uint64_t u = sent->rank % TYPES;
     return u > t && u - t - 1 <= g && g <= 34 + (u - t) ? LPMAG_JOINS : LPMAG_OPENS;
 }
 
 /* A record that has to be refused: spoiled in any way, or one that was sent up to
- * the last accepted. */
-static void compare_refused(struct drive *drive, struct reader *reader, const struct input *good,
-                            const struct input *sent_before)
+ * the last accepted, and not so long before that its count could be a later one's. */
+static void compare_refused(struct drive *drive, const struct stream *stream, struct reader *reader,
+                            const struct input *good, const struct sent *before)
 {
     struct input input = *good;
     unsigned rule = random_between(&drive->random, GENERATE_FIRST_RULE, 12);
     if (rule <= GENERATE_LAST_RULE) {
         input_spoil(&drive->random, &input, rule);
         compare_step(drive, reader, &input, (uint8_t)rule);
-    } else if (sent_before != NULL && reader->state.any && sent_before->content.count <= reader->state.last) {
-        compare_step(drive, reader, sent_before, 12);
+    } else if (before != NULL && reader->state.any &&
+               reader->state.last - full_count_of(stream, before) <= AHEAD + 1) {
+        compare_step(drive, reader, &before->input, 12);
     }
+}
+
+/* The last accepted count has to be that of the record. */
+static void expect_last(struct drive *drive, enum function function, const struct stream *stream,
+                        const struct reader *reader, size_t which)
+{
+    struct question question = {function, NULL, 0, {{"the last accepted count, of record", which}}};
+    expect_answer(drive, &question, reader->state.last, full_count_of(stream, &stream->sent[which]));
 }
 
 static void compare_finish_of(struct drive *drive, struct stream *stream, struct reader *reader)
@@ -254,16 +382,17 @@ static void compare_finish_of(struct drive *drive, struct stream *stream, struct
 static void run(struct drive *drive, struct stream *stream, struct reader *reader, uint32_t made_up_once_in)
 {
     struct random *random = &drive->random;
-    reader_make(random, reader, &fresh);
+    reader_make(random, reader, &stream->before);
     for (size_t i = 0; i < stream->length; i++) {
         struct sent *sent = &stream->sent[i];
         if (once_in(random, made_up_once_in))
-            compare_refused(drive, reader, &sent->input,
-                            i > 0 ? &stream->sent[random_below(random, (uint32_t)i)].input : NULL);
+            compare_refused(drive, stream, reader, &sent->input,
+                            i > 0 ? &stream->sent[random_below(random, (uint32_t)i)] : NULL);
         if (sent->fate == SPOILED)
-            compare_refused(drive, reader, &sent->input, NULL);
+            compare_refused(drive, stream, reader, &sent->input, NULL);
         if (sent->fate == KEPT) {
             compare_step(drive, reader, &sent->input, LPMAG_OK);
+            expect_last(drive, STEP, stream, reader, i);
             struct question question = {STEP, NULL, 0, {{"what became of count", sent->input.content.count}}};
             expect_answer(drive, &question, reader_report(reader).gap, fate_of(stream, i));
             take_closed(drive, stream, STEP, reader, reader_report(reader).closed);
@@ -301,7 +430,7 @@ static void run_fed(struct drive *drive, struct stream *stream, struct reader *r
 {
     static struct row row;
     struct random *random = &drive->random;
-    reader_make(random, reader, &fresh);
+    reader_make(random, reader, &stream->before);
     for (size_t next = 0; next < stream->length;) {
         next = make_row(random, stream, next, &row);
         for (size_t taken = 0; taken < row.count;) {
@@ -310,6 +439,8 @@ static void run_fed(struct drive *drive, struct stream *stream, struct reader *r
         }
         compare_finish_of(drive, stream, reader);
     }
+    if (last_kept(stream) != NONE)
+        expect_last(drive, FEED, stream, reader, last_kept(stream));
 }
 
 /* Every record kept is handed out once. An accumulation is torn only where 36
@@ -318,6 +449,7 @@ static void expect_all_handed_out(struct drive *drive, struct stream *stream)
 {
     size_t kept = 0;
     size_t real_time = 0;
+    const struct sent *last = NULL; /* record kept */
     for (size_t i = 0; i < stream->length; i++) {
         const struct sent *sent = &stream->sent[i];
         bool is_kept = sent->fate == KEPT;
@@ -326,9 +458,11 @@ static void expect_all_handed_out(struct drive *drive, struct stream *stream)
                     "a real-time record kept is in one accumulation, the", i);
         kept += is_kept;
         real_time += is_kept && sent->real_time;
+        drive->sent_farthest += is_kept && last != NULL && sent->at - last->at == AHEAD;
+        last = is_kept ? sent : last;
 
         size_t before = is_kept && sent->real_time ? kept_before(stream, i) : NONE;
-        if (before != NONE && stream->sent[before].turn / TYPES == sent->turn / TYPES &&
+        if (before != NONE && stream->sent[before].rank / TYPES == sent->rank / TYPES &&
             stream->sent[before].accumulation != sent->accumulation) {
             expect_true(drive, STEP, not_kept_between(stream, before, i) >= 36,
                         "an accumulation is torn only by 36 counts not accepted, before record", i);
@@ -349,11 +483,17 @@ static void compare_sent(struct drive *drive, enum run how, uint32_t others, str
 {
     static struct stream stream;
     static struct reader reader;
+    struct random *random = &drive->random;
     stream.accumulations = stream.cells = stream.slots = stream.samples = 0;
-    make_sent(&drive->random, &stream, others);
-    lose(&drive->random, &stream, losses, spoiled);
+    make_sent(random, &stream, others);
+    lose(random, &stream, losses, spoiled);
+    if (random_once_in(random, 4))
+        lose_beginning(random, &stream);
+    lose_far(random, &stream, random_once_in(random, 2) ? NEVER : 300);
+    number_sent(random, &stream);
+    begin_counts(drive, &stream);
     for (size_t i = 0; i < stream.length; i++)
-        stream.sent[i].finished = once_in(&drive->random, finish_once_in);
+        stream.sent[i].finished = once_in(random, finish_once_in);
     if (how == STEPPED)
         run(drive, &stream, &reader, made_up_once_in);
     else

@@ -3,25 +3,19 @@
 #include "states.h"
 
 #include "electrons.h"
+#include "streams.h"
 
 #include <system.h>
 
 /* What step has to answer to a record that passes rules 2 to 11. */
 static uint8_t expected_step(const struct lpmag_state *state, uint64_t count)
 {
-    if (clauses_broken(state) != 0)
-        return 1;
-    return state->any && count <= state->last ? 12 : LPMAG_OK;
+    return clauses_broken(state) != 0 ? 1 : answer_by_count(state, (uint32_t)(count % ROUND));
 }
 
 static uint8_t expected_finish(const struct lpmag_state *state)
 {
     return clauses_broken(state) != 0 ? 1 : LPMAG_OK;
-}
-
-static uint8_t any_type(struct random *random)
-{
-    return random_once_in(random, 3) ? other_type(random) : (uint8_t)random_below(random, TYPES);
 }
 
 /* Steps from the state with a good record, or is fed it, in buffers full of dirt; then
@@ -42,27 +36,44 @@ static void compare_next(struct drive *drive, const struct lpmag_state *state, u
 
 /* ---- states that keep the list ---------------------------------------- */
 
-/* The count nearest to the one wanted that is above the last accepted and below
- * 2^24. */
+/* The count nearest to the one wanted that is later than the last accepted, which isn't the
+ * last of all. */
 static uint64_t next_count(const struct lpmag_state *state, uint64_t wanted)
 {
+    uint64_t farthest = state->last + AHEAD < COUNTS ? state->last + AHEAD : COUNTS - 1;
     if (wanted <= state->last)
         return state->last + 1;
-    return wanted < COUNTS ? wanted : COUNTS - 1;
+    return wanted < farthest ? wanted : farthest;
 }
 
 /* Every count at which something changes for a frame of the type: those around the
  * edges of the joining rule, the next, the last of this major frame, the first of
- * another and the last of all. */
+ * another, the last of this turn, the first of the next and the farthest. */
 static void compare_next_counts(struct drive *drive, const struct lpmag_state *state, uint8_t type)
 {
     const struct lpmag_accumulation *open = &state->accumulation;
     uint64_t earliest = open->last_count + open->others + (uint64_t)(type - open->last_type);
-    const uint64_t wanted[] = {earliest - 1,   earliest,         earliest + 1,         earliest + 34,
-                               earliest + 35,  earliest + 36,    state->last + 1,      state->last | 15,
-                               (state->last | 15) + 1, (state->last | 15) + 16, COUNTS - 1};
+    uint64_t last_of_major = state->last | (SLOTS - 1);
+    uint64_t last_of_turn = state->last | (ROUND - 1);
+    const uint64_t wanted[] = {earliest - 1,      earliest,           earliest + 1,    earliest + 34,
+                               earliest + 35,     earliest + 36,      state->last + 1, last_of_major,
+                               last_of_major + 1, last_of_major + 16, last_of_turn,    last_of_turn + 1,
+                               COUNTS - 1};
     for (size_t i = 0; i < sizeof wanted / sizeof wanted[0]; i++)
         compare_next(drive, state, next_count(state, wanted[i]), type);
+}
+
+/* Counts at the edges of what is later, and any, whatever comes of them. */
+static void compare_jumps(struct drive *drive, const struct lpmag_state *state)
+{
+    struct random *random = &drive->random;
+    const uint64_t ahead[] = {
+        AHEAD - 1, AHEAD,     AHEAD + 1, AHEAD + 2, ROUND - 40,
+        ROUND - 2, ROUND - 1, ROUND,     ROUND + 1, random_to(random, ROUND - 1),
+    };
+    for (unsigned i = 0; i < 4; i++)
+        compare_next(drive, state, state->last + ahead[random_below(random, sizeof ahead / sizeof ahead[0])],
+                     any_type(random));
 }
 
 static void compare_passing(struct drive *drive, bool accumulation, bool major)
@@ -80,8 +91,8 @@ static void compare_passing(struct drive *drive, bool accumulation, bool major)
         compare_next(drive, &state, next_count(&state, state.last + random_below(random, 20)),
                      other_type(random));
     }
-    compare_next(drive, &state, state.last, any_type(random));
-    compare_next(drive, &state, random_between(random, 0, (uint32_t)state.last), any_type(random));
+    compare_next(drive, &state, stream_late(random, state.last), any_type(random));
+    compare_jumps(drive, &state);
     reader_make(random, &reader, &state);
     compare_finish(drive, &reader, LPMAG_OK);
     compare_finish(drive, &reader, LPMAG_OK);
@@ -96,7 +107,7 @@ static void compare_broken(struct drive *drive, const struct lpmag_state *state)
     struct random *random = &drive->random;
     struct input input;
     reader_make(random, &reader, state);
-    input_make(random, &input, state->last < COUNTS - 1 ? state->last + 1 : COUNTS - 1, any_type(random));
+    input_make(random, &input, state->last + 1, any_type(random));
     if (random_once_in(random, 4))
         input_spoil(random, &input, random_between(random, GENERATE_FIRST_RULE, GENERATE_LAST_RULE));
     compare_step(drive, &reader, &input, 1);
@@ -116,7 +127,7 @@ static void compare_every_clause(struct drive *drive)
                     drive->broken[call][clause]++;
             }
 
-    begin(drive, "states with counts at 2^24 and past it");
+    begin(drive, "states with counts at 2^36 and past it");
     for (uint32_t form = 0; form < COUNT_FORMS; form++)
         for (unsigned i = 0; i < 500; i++) {
             struct lpmag_state state = broken_counts(&drive->random, form);
@@ -135,9 +146,8 @@ static void compare_bytes(struct drive *drive, struct reader *reader, const uint
     struct lpmag_state state;
     struct input input;
     memcpy(&state, bytes, sizeof state);
-    uint64_t count = next_count(&state, state.last + 1);
     reader_set(reader, &state);
-    input_make(random, &input, count < COUNTS ? count : COUNTS - 1, any_type(random));
+    input_make(random, &input, state.last + 1, any_type(random));
     if (random_once_in(random, 4))
         compare_feed_of(drive, reader, &input, expected_step(&state, input.content.count));
     else

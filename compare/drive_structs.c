@@ -144,7 +144,8 @@ static void add_record(struct random *random, struct known *known, unsigned slot
 /* The first slots, so many of them. */
 static void make_records(struct random *random, struct known *known, unsigned slots)
 {
-    *known = (struct known){.number = random_between(random, 1000, (uint32_t)(COUNTS / SLOTS) - 2)};
+    uint64_t majors = (random_once_in(random, 2) ? ROUND : COUNTS) / SLOTS;
+    *known = (struct known){.number = random_between(random, 1000, (uint32_t)(majors - 2))};
     uint8_t type = (uint8_t)random_between(random, 3, TYPES - FRAMES);
     for (unsigned slot = 0; slot < slots; slot++) {
         if (sent[slot] == 'o')
@@ -307,6 +308,14 @@ static void expect_state(struct drive *drive, enum function function, struct rea
 
 /* ---- the three functions ---------------------------------------------- */
 
+/* A state that the records can follow: the fresh one where they are in the first turn, else one
+ * after a finish, with the count before theirs. */
+static struct lpmag_state state_before(const struct known *known)
+{
+    uint64_t first = SLOTS * known->number;
+    return first < ROUND ? fresh : (struct lpmag_state){.last = first - 1, .any = 1};
+}
+
 /* What the next record closes: both, by a type that isn't above the last in the next
  * major frame; the major frame alone, by an other frame there; the accumulation alone, by
  * such a type in the last slot. */
@@ -324,8 +333,9 @@ static void make_closing(struct random *random, const struct known *known, enum 
 static void compare_by_steps(struct drive *drive, const struct known *known, enum closing closing)
 {
     static struct reader reader;
+    struct lpmag_state before = state_before(known);
     struct input input;
-    reader_make(&drive->random, &reader, &fresh);
+    reader_make(&drive->random, &reader, &before);
     for (size_t i = 0; i < known->records; i++) {
         compare_fields_of(drive, &known->inputs[i]);
         compare_step(drive, &reader, &known->inputs[i], LPMAG_OK);
@@ -345,6 +355,7 @@ static void compare_by_feeding(struct drive *drive, const struct known *known, e
     static struct reader reader;
     static struct row row;
     struct random *random = &drive->random;
+    struct lpmag_state before = state_before(known);
     struct input input;
     uint8_t rule = (uint8_t)random_between(random, GENERATE_FIRST_RULE + 1, GENERATE_LAST_RULE);
     size_t some = random_below(random, (uint32_t)known->records + 1);
@@ -357,7 +368,7 @@ static void compare_by_feeding(struct drive *drive, const struct known *known, e
     make_closing(random, known, closing, &input);
     row_add(&row, &input, LPMAG_OK);
 
-    reader_make(random, &reader, &fresh);
+    reader_make(random, &reader, &before);
     compare_feed(drive, &reader, &row, 0, LPMAG_RECORD * some);
     expect_fed(drive, &reader, some, LPMAG_OK, known, false, false);
     compare_feed(drive, &reader, &row, some, row_left(&row, some));

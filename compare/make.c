@@ -1,9 +1,9 @@
 /* Writes records made from a seed to standard output, for programs to list.
- *   make STREAM [SEED [NUMBER]]  a sample, or a stream of anything; one of many
- *   make many N [SEED]           a stream of N good records
- *   make KIND [SEED [NUMBER]]    all cases of a kind, or one alone
- *   make number KIND             how many cases there are
- *   make case COUNT              which one has that count */
+ *   make STREAM [SEED [NUMBER]]        a sample, or a stream of anything; one of many
+ *   make many N [SEED]                 a stream of N good records
+ *   make KIND [SEED [NUMBER [COUNT]]]  all cases of a kind; one alone, from a count of its own or that
+ *   make number KIND                   how many cases there are
+ *   make case COUNT                    which one has that count */
 #include "make.h"
 
 #include "text.h"
@@ -12,17 +12,18 @@ static const struct {
     const char *name;
     void (*print)(uint64_t seed);
 } streams[] = {
-    {"example", print_example}, {"stream", print_stream},     {"refusals", print_refusals},
-    {"any", print_any},         {"repeated", print_repeated}, {"spoiled", print_spoiled},
-    {"random", print_random},
+    {"example", print_example}, {"stream", print_stream}, {"refusals", print_refusals},
+    {"turn", print_turn},       {"any", print_any},       {"repeated", print_repeated},
+    {"spoiled", print_spoiled}, {"random", print_random}, {"climb", print_climb},
 };
 enum { STREAMS = sizeof streams / sizeof streams[0] };
 
 static _Noreturn void refuse(void)
 {
-    fail(2, "usage: make example|stream|refusals|any|repeated|spoiled|random [SEED [NUMBER]]; make many N "
-            "[SEED]; make cuts|refused|pairs|joins [SEED [NUMBER]]; make number cuts|refused|pairs|joins; "
-            "make case COUNT; all numbers decimal and below 2^64");
+    fail(2, "usage: make example|stream|refusals|turn|any|repeated|spoiled|random|climb [SEED [NUMBER]]; "
+            "make many N [SEED]; make cuts|refused|pairs|joins [SEED [NUMBER [COUNT]]]; make number "
+            "cuts|refused|pairs|joins; make case COUNT; all numbers decimal and below 2^64, a record's "
+            "count below 2^24");
 }
 
 /* The number at a place among the arguments; if they end before it, the one given. */
@@ -49,14 +50,15 @@ static bool make_stream(int argc, char **argv)
 static bool make_cases(int argc, char **argv)
 {
     const struct cases *cases = cases_named(argv[1]);
-    if (argc > 4 || cases == NULL)
+    if (argc > 5 || cases == NULL)
         return false;
     uint64_t seed = number_at(argc, argv, 2, GENERATE_SEED);
     uint64_t which = number_at(argc, argv, 3, 0);
-    if (which >= cases->number())
+    uint64_t count = number_at(argc, argv, 4, count_of_case((uint32_t)which));
+    if (which >= cases->number() || count >= COUNTS)
         refuse();
-    if (argc == 4)
-        print_case(cases, seed, (uint32_t)which);
+    if (argc > 3)
+        print_case(cases, seed, (uint32_t)which, (uint32_t)count);
     else
         print_cases(cases, seed);
     return true;

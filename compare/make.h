@@ -9,17 +9,21 @@
 #include <stdint.h>
 
 enum { TYPES = 36 };
-#define COUNTS 16777216 /* 24 bits */
+
+/* The counts of a turn, 24 bits; and how far ahead of the last accepted record one can be and be
+ * later (02, request 1). */
+#define COUNTS 16777216
+#define AHEAD 8388607
 
 /* ---- records as they are sent ----------------------------------------- */
 
-/* Counts rise by one with each record; the types of real-time frames go round and
- * round. */
+/* Counts rise by one with each record and restart at 0 after the last; the types of real-time
+ * frames go round and round. */
 struct sending {
     struct random random;
     uint32_t count;                /* of the next record */
     uint8_t type;                  /* of the next real-time frame */
-    uint8_t last[GENERATE_RECORD]; /* the last one printed; at first one of count 0 */
+    uint8_t last[GENERATE_RECORD]; /* the last one printed; at first one of an earlier count */
     uint32_t last_count;
 };
 
@@ -39,22 +43,24 @@ void lose_letter(struct sending *sending, char letter);
 
 /* ---- records that are refused ----------------------------------------- */
 
-/* The rules that a record of 472 bytes can break. */
+/* The rules that a record of 472 bytes can break after any other. (It breaks 14 only in the last
+ * turn.) */
 enum { FIRST_BROKEN = 3, LATE = 12, BROKEN = LATE - FIRST_BROKEN + 1 };
 
 /* The number of forms in which a rule can be broken. */
 uint32_t forms_of(unsigned rule);
 
-/* Prints a record that might be sent next but breaks one rule, or two at once. It is
- * not sent: the next one has the same count. */
+/* Prints a record that might be sent next but breaks one rule, or two at once, or has that
+ * count. It is not sent: the next one has the same count. */
 void print_refused(struct sending *sending, unsigned rule, uint32_t form);
 void print_refused_twice(struct sending *sending, unsigned rule, unsigned also);
+void print_of_count(struct sending *sending, uint32_t count);
 
 /* ---- what is written -------------------------------------------------- */
 
-/* Cases are small streams, so many of a kind. One can be a file by itself. Or all of
- * a kind are one file: their counts are so far apart that what a case leaves open is
- * closed by the next. */
+/* Cases are small streams, so many of a kind. One can be a file by itself, from its count or any
+ * other. Or all of a kind are one file: their counts are so far apart that what a case leaves
+ * open is closed by the next. */
 struct cases {
     const char *name;
     uint32_t (*number)(void);
@@ -62,14 +68,16 @@ struct cases {
 };
 
 const struct cases *cases_named(const char *name); /* null if there are none */
-void print_case(const struct cases *cases, uint64_t seed, uint32_t which);
+void print_case(const struct cases *cases, uint64_t seed, uint32_t which, uint32_t count);
 void print_cases(const struct cases *cases, uint64_t seed);
+uint32_t count_of_case(uint32_t which);
 uint64_t case_of_count(uint64_t count);
 
 /* The printed example, the samples, and a long stream. */
 void print_example(uint64_t seed);
 void print_stream(uint64_t seed);
 void print_refusals(uint64_t seed);
+void print_turn(uint64_t seed);
 void print_many(uint64_t seed, uint64_t records);
 
 /* Streams of which a seed makes one. */
@@ -77,5 +85,6 @@ void print_any(uint64_t seed);      /* any types and counts, refused records, a 
 void print_repeated(uint64_t seed); /* every record more than once */
 void print_spoiled(uint64_t seed);  /* every record refused */
 void print_random(uint64_t seed);   /* any bytes, any number of them */
+void print_climb(uint64_t seed);    /* by jumps up to the end of the last turn */
 
 #endif

@@ -204,21 +204,26 @@ const struct cases *cases_named(const char *name)
 }
 
 /* Each has random numbers of its own, so that it is the same alone. */
-void print_case(const struct cases *cases, uint64_t seed, uint32_t which)
+void print_case(const struct cases *cases, uint64_t seed, uint32_t which, uint32_t count)
 {
     struct random of_case = {seed + which};
     struct sending sending;
-    sending_begin(&sending, random_next(&of_case), APART * which, 0);
+    sending_begin(&sending, random_next(&of_case), count, 0);
     cases->print(&sending, which);
 }
 
 void print_cases(const struct cases *cases, uint64_t seed)
 {
     for (uint32_t which = 0; which < cases->number(); which++)
-        print_case(cases, seed, which);
+        print_case(cases, seed, which, count_of_case(which));
+}
+
+uint32_t count_of_case(uint32_t which)
+{
+    return APART * which;
 }
 
 uint64_t case_of_count(uint64_t count)
 {
-    return count / APART;
+    return count % COUNTS / APART;
 }

@@ -65,15 +65,15 @@ void print_refusals(uint64_t seed)
 {
     struct sending sending;
     sending_begin(&sending, seed, 7325806, 30);
-    for (uint32_t turn = 0; turn < FORMS * BROKEN; turn++) {
-        unsigned rule = FIRST_BROKEN + turn % BROKEN;
-        print_refused(&sending, rule, turn / BROKEN * forms_of(rule) / FORMS);
-        if (turn % 2 == 0)
+    for (uint32_t round = 0; round < FORMS * BROKEN; round++) {
+        unsigned rule = FIRST_BROKEN + round % BROKEN;
+        print_refused(&sending, rule, round / BROKEN * forms_of(rule) / FORMS);
+        if (round % 2 == 0)
             lose_frames(&sending, 1);
         send_frames(&sending, 1);
-        if (turn % 4 == 0)
+        if (round % 4 == 0)
             send_others(&sending, 1);
-        if (turn % BROKEN == BROKEN - 1)
+        if (round % BROKEN == BROKEN - 1)
             lose_frames(&sending, 40);
     }
 
@@ -83,6 +83,42 @@ void print_refusals(uint64_t seed)
         send_frames(&sending, 1);
     }
     print_bytes(sending.last, TAIL);
+}
+
+/* The clock goes round twice (02, request 1). */
+void print_turn(uint64_t seed)
+{
+    struct sending sending;
+    sending_begin(&sending, seed, 16777195, 27);
+
+    /* The end of an accumulation, and the start of one that goes on in the next turn, up to the
+     * last count; then a record that was delayed. */
+    send_frames(&sending, 9);
+    send_frames(&sending, 8);
+    send_others(&sending, 1);
+    send_frames(&sending, 3);
+    print_of_count(&sending, 16777213);
+
+    /* The restart, and a delayed record from before it; then the rest of the accumulation and the
+     * start of another. */
+    send_frames(&sending, 1);
+    print_of_count(&sending, 16777214);
+    send_frames(&sending, 10);
+    send_others(&sending, 1);
+    send_frames(&sending, 14);
+    send_frames(&sending, 6);
+
+    /* The farthest count that is later, 31 + 8,388,607; before it the next, which isn't. */
+    print_of_count(&sending, 8388639);
+    lose_frames(&sending, 8388606);
+    send_frames(&sending, 1);
+
+    /* On to the end of this turn, and a dropout across it inside an accumulation. */
+    lose_others(&sending, 20);
+    lose_frames(&sending, 8388551);
+    send_frames(&sending, 3);
+    lose_frames(&sending, 5);
+    send_frames(&sending, 4);
 }
 
 /* Counts from 1, types from 0. */

@@ -13,20 +13,26 @@ static void make_record(struct sending *sending, uint8_t type, uint8_t *record)
     generate_record(&sending->random, &content, record);
 }
 
+static void skip(struct sending *sending, uint32_t counts)
+{
+    sending->count = (sending->count + counts) % COUNTS;
+}
+
+/* The earlier count is before those of the case that comes before in a file. */
 void sending_begin(struct sending *sending, uint64_t seed, uint32_t count, uint8_t type)
 {
-    *sending = (struct sending){.random = {seed}, .type = type};
+    uint32_t earlier = (count + COUNTS - 3000) % COUNTS;
+    *sending = (struct sending){.random = {seed}, .count = earlier, .type = type, .last_count = earlier};
     make_record(sending, type, sending->last);
     sending->count = count;
 }
 
 static void send(struct sending *sending, uint8_t type)
 {
-    if (sending->count >= COUNTS)
-        fail(1, "the counts of a record don't reach so far");
     make_record(sending, type, sending->last);
     print_bytes(sending->last, GENERATE_RECORD);
-    sending->last_count = sending->count++;
+    sending->last_count = sending->count;
+    skip(sending, 1);
 }
 
 void send_frames(struct sending *sending, uint32_t frames)
@@ -45,13 +51,13 @@ void send_others(struct sending *sending, uint32_t frames)
 
 void lose_frames(struct sending *sending, uint32_t frames)
 {
-    sending->count += frames;
+    skip(sending, frames);
     sending->type = (uint8_t)((sending->type + frames) % TYPES);
 }
 
 void lose_others(struct sending *sending, uint32_t frames)
 {
-    sending->count += frames;
+    skip(sending, frames);
 }
 
 void lose_letter(struct sending *sending, char letter)
@@ -74,9 +80,11 @@ void send_letter(struct sending *sending, char letter)
 
 /* ---- records that are refused ----------------------------------------- */
 
-/* The forms of rule 12: the last record once more, another one of its count, and
- * ones of lower counts. */
-enum { AGAIN, SAME_COUNT, ONE_LOWER, LOWER, ZERO, LATE_FORMS };
+/* The forms of rule 12: the last record once more, another one of its count, one delayed by a few
+ * counts, from the turn before too, one of a lower count in the turn, not so low that it might be
+ * a later one's, and one half a turn ahead of the last if none was lost, the first that isn't
+ * later. */
+enum { AGAIN, SAME_COUNT, DELAYED, LOWER, HALF_A_TURN, LATE_FORMS };
 
 uint32_t forms_of(unsigned rule)
 {
@@ -86,13 +94,14 @@ uint32_t forms_of(unsigned rule)
 static uint32_t late_count(struct sending *sending, uint32_t form)
 {
     uint32_t last = sending->last_count;
+    uint32_t lowest = last > 8000000 ? last - 8000000 : 0;
     switch (form) {
-    case ONE_LOWER:
-        return last > 0 ? last - 1 : 0;
+    case DELAYED:
+        return (last + COUNTS - random_between(&sending->random, 1, 40)) % COUNTS;
     case LOWER:
-        return random_below(&sending->random, last + 1);
-    case ZERO:
-        return 0;
+        return lowest + random_below(&sending->random, last - lowest + 1);
+    case HALF_A_TURN:
+        return (sending->count + AHEAD) % COUNTS;
     default:
         return last;
     }
@@ -113,6 +122,14 @@ void print_refused(struct sending *sending, unsigned rule, uint32_t form)
     uint8_t record[GENERATE_LONGEST];
     make_record(sending, sending->type, record);
     break_rule(sending, record, rule, form);
+    print_bytes(record, GENERATE_RECORD);
+}
+
+void print_of_count(struct sending *sending, uint32_t count)
+{
+    uint8_t record[GENERATE_RECORD];
+    make_record(sending, sending->type, record);
+    generate_set_count(record, count);
     print_bytes(record, GENERATE_RECORD);
 }
 

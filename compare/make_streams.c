@@ -5,16 +5,17 @@
 
 /* ---- what is sent ----------------------------------------------------- */
 
-/* From the first count, or up to the last, or anywhere; from any type. */
+/* From the first count, or shortly before the last of the turn, or anywhere; from any type. */
 static void begin_anywhere(struct sending *sending, uint64_t seed)
 {
-    sending_begin(sending, seed, 0, 0);
-    struct random *random = &sending->random;
-    if (random_once_in(random, 4))
-        sending->count = COUNTS - 1 - random_below(random, 1000);
-    else if (!random_once_in(random, 4))
-        sending->count = random_below(random, COUNTS);
-    sending->type = (uint8_t)random_below(random, TYPES);
+    struct random random = {seed};
+    uint32_t count = 0;
+    if (random_once_in(&random, 4))
+        count = COUNTS - 1 - random_below(&random, 1000);
+    else if (!random_once_in(&random, 4))
+        count = random_below(&random, COUNTS);
+    uint8_t type = (uint8_t)random_below(&random, TYPES);
+    sending_begin(sending, random_next(&random), count, type);
 }
 
 /* Mostly the next type, now and then any. */
@@ -28,7 +29,8 @@ static void send_any(struct sending *sending)
         send_frames(sending, 1);
 }
 
-/* Mostly none are lost, often about as many as tear an accumulation. */
+/* Mostly none are lost, often about as many as tear an accumulation, now and then as many as
+ * leave the next record later. */
 static uint32_t any_loss(struct random *random)
 {
     switch (random_below(random, 16)) {
@@ -40,6 +42,8 @@ static uint32_t any_loss(struct random *random)
         return random_below(random, 300);
     case 3:
         return random_between(random, 1, 4);
+    case 4:
+        return random_once_in(random, 8) ? AHEAD - 1 - random_below(random, 3) : 0;
     default:
         return 0;
     }
@@ -77,7 +81,7 @@ void print_any(uint64_t seed)
     struct sending sending;
     begin_anywhere(&sending, seed);
     uint32_t left = random_between(&sending.random, 1, 300);
-    for (; left > 0 && sending.count < COUNTS; left--) {
+    for (; left > 0; left--) {
         if (random_once_in(&sending.random, 10))
             print_any_refused(&sending, LATE);
         send_any(&sending);
@@ -91,7 +95,7 @@ void print_repeated(uint64_t seed)
     struct sending sending;
     begin_anywhere(&sending, seed);
     uint32_t left = random_between(&sending.random, 1, 100);
-    for (; left > 0 && sending.count < COUNTS; left--) {
+    for (; left > 0; left--) {
         send_any(&sending);
         for (uint32_t again = random_between(&sending.random, 1, 3); again > 0; again--)
             print_bytes(sending.last, GENERATE_RECORD);
@@ -116,4 +120,30 @@ void print_random(uint64_t seed)
         uint8_t byte = (uint8_t)random_next(&random);
         print_bytes(&byte, 1);
     }
+}
+
+/* Jumps up to the last turn, whose last count is `last`; then some records in order up to that.
+ * Refused ones come between; in the last turn they are lower, and later or not. */
+void print_climb(uint64_t seed)
+{
+    enum { IN_ORDER = 20 };
+    const uint64_t last = 4096 * (uint64_t)COUNTS - 1;
+    struct sending sending;
+    begin_anywhere(&sending, seed);
+    uint64_t count = sending.count; /* the full one of the next record */
+    for (; count + AHEAD <= last - IN_ORDER; count += AHEAD) {
+        send_any(&sending);
+        if (random_once_in(&sending.random, 8))
+            print_any_refused(&sending, LATE);
+        lose_frames(&sending, AHEAD - 1);
+    }
+    send_any(&sending);
+    print_of_count(&sending, (sending.last_count + AHEAD) % COUNTS);
+    lose_frames(&sending, (uint32_t)(last - count) - IN_ORDER);
+    for (uint32_t left = IN_ORDER; left > 0; left--) {
+        send_any(&sending);
+        print_of_count(&sending, random_below(&sending.random, 100));
+    }
+    for (uint32_t refused = 0; refused < 10; refused++)
+        print_of_count(&sending, AHEAD - 5 + refused);
 }

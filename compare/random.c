@@ -15,9 +15,14 @@ uint32_t random_below(struct random *random, uint32_t bound)
     return (uint32_t)((random_next(random) >> 32) * bound >> 32);
 }
 
+uint64_t random_to(struct random *random, uint64_t most)
+{
+    return random_next(random) % (most + 1);
+}
+
 uint32_t random_between(struct random *random, uint32_t low, uint32_t high)
 {
-    return low + (uint32_t)(random_next(random) % ((uint64_t)high - low + 1));
+    return low + (uint32_t)random_to(random, high - low);
 }
 
 bool random_once_in(struct random *random, uint32_t times)

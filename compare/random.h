@@ -15,6 +15,9 @@ uint64_t random_next(struct random *random);
 /* A number below `bound`, which is at least 1. */
 uint32_t random_below(struct random *random, uint32_t bound);
 
+/* A number from 0 to `most`, both included, which is below 2^64 - 1. */
+uint64_t random_to(struct random *random, uint64_t most);
+
 /* A number from `low` to `high`, both included. */
 uint32_t random_between(struct random *random, uint32_t low, uint32_t high);
 

@@ -1,4 +1,4 @@
-/* The reader as the driver expects it, by the rules of 01 in their shortest form,
+/* The reader as the driver expects it, by the rules of 01 and 02 in their shortest form,
  * and what it calls it with. */
 #ifndef READER_H
 #define READER_H
@@ -9,7 +9,13 @@
 /* ---- states ----------------------------------------------------------- */
 
 enum { SLOTS = 16 };
-#define COUNTS ((uint64_t)1 << 24)
+
+/* 02, request 1: a record's own count is below ROUND. A full count is below COUNTS: ROUND times
+ * the turn, 0 to 4,095, and the own count. A record is later when it is 1 to AHEAD counts ahead
+ * of the last accepted, as far as 24 bits tell. */
+#define ROUND ((uint64_t)1 << 24)
+#define COUNTS ((uint64_t)1 << 36)
+#define AHEAD ((uint64_t)8388607)
 
 /* Marks are the bits of a number. */
 unsigned ones(uint64_t marks);
@@ -19,6 +25,13 @@ unsigned highest(uint64_t marks); /* of marks that aren't 0 */
  * another one bounds, and are never broken alone. */
 uint32_t clauses_broken(const struct lpmag_state *state);
 
+/* The full count that a record of that own count has if it is accepted after this state: the
+ * first past the last accepted with these 24 bits, or the own count where there is none. */
+uint64_t full_count(const struct lpmag_state *state, uint32_t own);
+
+/* What step has to answer to such a record if all else is right: LPMAG_OK, 12 or 14. */
+uint8_t answer_by_count(const struct lpmag_state *state, uint32_t own);
+
 /* ---- records ---------------------------------------------------------- */
 
 struct input {
@@ -27,7 +40,7 @@ struct input {
     size_t length;
 };
 
-/* A record that passes rules 2 to 11. */
+/* A record that passes rules 2 to 11. Its own count is that of the full one given. */
 void input_make(struct random *random, struct input *input, uint64_t count, uint8_t type);
 
 /* Breaks a rule from 2 to 11. */

@@ -137,6 +137,26 @@ struct lpmag_closed reader_closed(struct reader *reader)
     return closed;
 }
 
+/* ---- the clock -------------------------------------------------------- */
+
+static bool begins_turn(const struct lpmag_state *before, const struct lpmag_state *after)
+{
+    return before->any && after->last / ROUND > before->last / ROUND;
+}
+
+/* What a good record meets that comes after others. */
+static void count_jump(struct drive *drive, const struct lpmag_state *state, uint32_t own, uint8_t answer)
+{
+    static const uint64_t edges[JUMPS] = {
+        [NEXT_COUNT] = 1,          [BEFORE_FARTHEST] = 8388606, [FARTHEST] = 8388607,
+        [PAST_FARTHEST] = 8388608, [TWO_PAST] = 8388609,        [ONE_LATE] = 16777215,
+    };
+    bool below = own < state->last % ROUND;
+    for (enum jump jump = 0; jump < JUMPS; jump++)
+        drive->jumps[jump][below] += (own - state->last) % ROUND == edges[jump];
+    drive->late_past_turns += answer == 12 && below && state->last / ROUND == 4095;
+}
+
 /* ---- step and finish -------------------------------------------------- */
 
 void compare_step(struct drive *drive, struct reader *reader, const struct input *input, uint8_t expected)
@@ -148,10 +168,13 @@ void compare_step(struct drive *drive, struct reader *reader, const struct input
     same_calls(drive, &question, reader, first, second, input->record);
     expect_answer(drive, &question, first, expected);
     drive->steps[first]++;
+    if (reader->asked.any && (first == LPMAG_OK || first >= 12))
+        count_jump(drive, &reader->asked, input->content.count, first);
 
     if (first == LPMAG_OK) {
         drive->fresh[BY_STEP] += !reader->state.any;
         struct lpmag_report report = expected_report(drive, reader, input);
+        drive->turned[BY_STEP] += begins_turn(&reader->asked, &reader->state);
         expect_bytes(drive, &question, "the report isn't what it has to be", struct_of(reader, TOLD, FIRSTS),
                      &report, sizeof report);
         expect_rooms(drive, &question, reader);
@@ -278,6 +301,7 @@ size_t compare_feed(struct drive *drive, struct reader *reader, const struct row
         expect_bytes(drive, &question, "what was fed isn't what comes of steps, one by one",
                      struct_of(reader, TOLD, FIRSTS), &fed, sizeof fed);
         take_over(reader, &stepped);
+        drive->turned[BY_FEED] += begins_turn(&reader->asked, &reader->state);
         expect_rooms(drive, &question, reader);
         count_fed(drive, &fed, length);
     }

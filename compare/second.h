@@ -4,8 +4,8 @@
  * answers, that are told there. Structs and the numbers of answers are that header's,
  * sizes and places are the papers'.
  *
- * Papers: "01" is the rules for what is built, "000" the instrument's telemetry
- * format, "002" the archive label.
+ * Papers: "01" is the rules for what is built, "02" the requests after it, "000" the
+ * instrument's telemetry format, "002" the archive label.
  *
  * A slice is a pointer and then a number of elements; the pointer may be null
  * only with 0 elements. Lent rooms overlap no other argument.

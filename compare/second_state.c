@@ -3,8 +3,17 @@
  * 01's list. */
 #include "second_state.h"
 
-/* Counts have 24 bits (01, "The record"). */
-#define COUNTS 16777216
+/* ---- counts ----------------------------------------------------------- */
+
+uint64_t second_full_count(uint64_t turn, uint32_t own_count)
+{
+    return turn * SECOND_COUNTS_OF_A_TURN + own_count;
+}
+
+static uint64_t last_accepted(const struct second_state *state)
+{
+    return second_full_count(state->turn, state->own_count);
+}
 
 /* ---- marks ------------------------------------------------------------ */
 
@@ -65,7 +74,7 @@ static struct second_accumulation read_accumulation(const struct lpmag_accumulat
 struct lpmag_state second_lent_state(const struct second_state *state)
 {
     const struct second_accumulation *accumulation = &state->accumulation;
-    return (struct lpmag_state){.last = state->last_accepted,
+    return (struct lpmag_state){.last = last_accepted(state),
                                 .any = state->accepted ? 1 : 0,
                                 .accumulation = {.first = accumulation->first_count,
                                                  .held = second_lent_held(accumulation),
@@ -112,11 +121,12 @@ static bool sum_at_most(uint64_t one, uint64_t other, uint64_t most)
     return one <= most && other <= most - one;
 }
 
-/* "counts below 2^24" */
+/* "the state list (below 2^36)" (02, request 1): no count's turn is past the last. */
 static bool counts_below(const struct second_state *state)
 {
-    return state->last_accepted < COUNTS && state->accumulation.first_count < COUNTS &&
-           state->accumulation.last_count < COUNTS;
+    return state->turn <= SECOND_LAST_TURN &&
+           state->accumulation.first_count / SECOND_COUNTS_OF_A_TURN <= SECOND_LAST_TURN &&
+           state->accumulation.last_count / SECOND_COUNTS_OF_A_TURN <= SECOND_LAST_TURN;
 }
 
 /* "frames held among 36, the highest being the last type" */
@@ -142,7 +152,7 @@ static bool frames_fit(const struct second_accumulation *open)
  * being the last real-time count */
 static bool others_fit(const struct second_state *state)
 {
-    return sum_at_most(state->accumulation.last_count, state->accumulation.others, state->last_accepted);
+    return sum_at_most(state->accumulation.last_count, state->accumulation.others, last_accepted(state));
 }
 
 /* "MAG slots among the slots" */
@@ -161,8 +171,8 @@ static bool last_slot_right(const struct second_state *state)
     const struct second_major_frame *open = &state->major;
     for (size_t slot = SECOND_SLOTS; slot > 0; slot--)
         if (open->held[slot - 1])
-            return open->number == state->last_accepted / SECOND_SLOTS &&
-                   slot - 1 == state->last_accepted % SECOND_SLOTS;
+            return open->number == last_accepted(state) / SECOND_SLOTS &&
+                   slot - 1 == last_accepted(state) % SECOND_SLOTS;
     return true;
 }
 
@@ -208,8 +218,11 @@ bool second_read_state(const struct lpmag_state *lent, struct second_state *stat
     if (lent->any > 1 || !spares_zero(lent))
         return false;
 
-    *state = (struct second_state){lent->any == 1, lent->last, read_accumulation(&lent->accumulation),
-                                   second_read_major(&lent->major)};
+    *state = (struct second_state){.accepted = lent->any == 1,
+                                   .turn = lent->last / SECOND_COUNTS_OF_A_TURN,
+                                   .own_count = (uint32_t)(lent->last % SECOND_COUNTS_OF_A_TURN),
+                                   .accumulation = read_accumulation(&lent->accumulation),
+                                   .major = second_read_major(&lent->major)};
     return counts_below(state) && frames_right(&state->accumulation) && frames_fit(&state->accumulation) &&
            others_fit(state) && mag_slots_right(&state->major) && last_slot_right(state) &&
            ranges_and_words_right(&state->major) && closed_are_zero(state) &&

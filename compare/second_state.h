@@ -12,6 +12,10 @@
 /* The struct has 64 marks for frames, of which 36 can be one. */
 enum { SECOND_TYPES = 36, SECOND_FRAME_MARKS = 64, SECOND_SLOTS = 16 };
 
+/* The clock goes round (02, request 1): a record's own count has 24 bits, and turns are 0 to
+ * 4,095. Where nothing else is said a count is the full one, turn x 2^24 + own count. */
+enum { SECOND_COUNTS_OF_A_TURN = 16777216, SECOND_LAST_TURN = 4095 };
+
 /* The accumulation that is open if it holds a frame. */
 struct second_accumulation {
     uint64_t first_count;
@@ -31,11 +35,14 @@ struct second_major_frame {
 };
 
 struct second_state {
-    bool accepted; /* something was */
-    uint64_t last_accepted;
+    bool accepted;      /* something was */
+    uint64_t turn;      /* of the last accepted record, */
+    uint32_t own_count; /* and its own count */
     struct second_accumulation accumulation;
     struct second_major_frame major;
 };
+
+uint64_t second_full_count(uint64_t turn, uint32_t own_count);
 
 size_t second_frames_held(const struct second_accumulation *accumulation);
 size_t second_slots_held(const struct second_major_frame *major);

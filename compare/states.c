@@ -19,15 +19,33 @@ static uint64_t up_to(struct random *random, uint64_t most)
     case 1:
         return most;
     default:
-        return random_between(random, 0, (uint32_t)most);
+        return random_to(random, most);
     }
 }
 
-/* Room between two counts, often none. */
+/* A count from 0 to `most`, often in the first turn, about the start of any, or among the last
+ * as many as a turn has. */
+static uint64_t any_count(struct random *random, uint64_t most)
+{
+    uint64_t count = up_to(random, most);
+    switch (random_below(random, 5)) {
+    case 0:
+        return count % ROUND;
+    case 1:
+        count = (count | (ROUND - 1)) + 101 - random_below(random, 200);
+        return count < most ? count : most;
+    case 2:
+        return most - random_to(random, most < ROUND ? most : ROUND - 1);
+    default:
+        return count;
+    }
+}
+
+/* Room between two counts, often none, now and then of many turns. */
 static uint64_t room(struct random *random)
 {
-    static const uint64_t most[] = {0, 0, 80, 4000000};
-    return up_to(random, most[random_below(random, 4)]);
+    static const uint64_t most[] = {0, 0, 0, 80, 80, 4000000, 4000000, (uint64_t)1 << 33};
+    return up_to(random, most[random_below(random, 8)]);
 }
 
 static uint64_t any_held(struct random *random)
@@ -53,7 +71,7 @@ static void open_accumulation(struct random *random, struct lpmag_state *state)
     open->others = room(random);
     uint64_t frames = ones(open->held) - 1 + room(random);
     uint64_t after = open->others + room(random);
-    open->first = up_to(random, COUNTS - 1 - frames - after);
+    open->first = any_count(random, COUNTS - 1 - frames - after);
     open->last_count = open->first + frames;
     state->last = open->last_count + after;
 }
@@ -78,7 +96,7 @@ struct lpmag_state any_state(struct random *random, bool accumulation, bool majo
     if (accumulation)
         open_accumulation(random, &state);
     else
-        state.last = up_to(random, COUNTS - 1);
+        state.last = any_count(random, COUNTS - 1);
     if (major)
         open_major(random, &state);
     return state;
@@ -87,7 +105,7 @@ struct lpmag_state any_state(struct random *random, bool accumulation, bool majo
 /* ---- states that break a clause --------------------------------------- */
 
 static const uint64_t past_counts[] = {
-    COUNTS, COUNTS + 1, COUNTS + 100, 0x80000000, (uint64_t)1 << 32, (uint64_t)1 << 63, UINT64_MAX,
+    COUNTS, COUNTS + 1, COUNTS + 100, 2 * COUNTS - 1, COUNTS << 4, (uint64_t)1 << 63, UINT64_MAX,
 };
 enum { PAST_COUNTS = sizeof past_counts / sizeof past_counts[0] };
 
@@ -111,8 +129,8 @@ uint32_t break_forms(enum clause clause)
     case FIRST_AND_FRAMES:
         return 6;
     case MAJOR_NUMBER:
-    case NOTHING_ACCEPTED:
         return 7;
+    case NOTHING_ACCEPTED:
     case LAST_AND_OTHERS:
     case NO_ACCUMULATION_OPEN:
         return 8;
@@ -286,7 +304,7 @@ static void break_closed(struct random *random, struct lpmag_accumulation *close
  * clauses, or anything. */
 static void break_nothing(struct random *random, struct lpmag_state *state, uint32_t form)
 {
-    if (form < 6)
+    if (form < 7)
         *state = (struct lpmag_state){0};
     state->any = 0;
     switch (form) {
@@ -309,6 +327,9 @@ static void break_nothing(struct random *random, struct lpmag_state *state, uint
     case 5:
         state->major.slots = 1;
         state->major.words[0] = 1;
+        break;
+    case 6: /* the turn alone */
+        state->last = ROUND * random_between(random, 1, 4095);
         break;
     }
 }

@@ -18,7 +18,7 @@ struct lpmag_state broken_state(struct random *random, enum clause clause, uint3
 /* Sets one of the SPARE_BITS. */
 void set_spare_bit(struct lpmag_state *state, unsigned bit);
 
-/* A state with a count at 2^24 or past it, which may break other clauses too: the
+/* A state with a count at 2^36 or past it, which may break other clauses too: the
  * last accepted; the last real-time with it; the first with both; the last real-time
  * alone; the first alone; the first, so large that the frames make it small. */
 enum { COUNT_FORMS = 6 };

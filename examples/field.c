@@ -1,9 +1,10 @@
 /* The nominal field in nT as CSV, 18 vectors for each real-time frame of a file or of standard input:
  *   cc -Iinclude examples/field.c target/staticlib/liblpmag.a -o field && ./field samples/stream.bin */
+#include <inttypes.h>
 #include <stdio.h>
 #include "lpmag_reader.h"
 
-static void print_vectors(const struct lpmag_fields *of, const uint8_t *mag)
+static void print_vectors(uint64_t count, const struct lpmag_fields *of, const uint8_t *mag)
 {
     int16_t samples[LPMAG_SAMPLES] = {0};
     uint8_t range = lpmag_samples(mag, LPMAG_MAG, samples, LPMAG_SAMPLES);
@@ -12,7 +13,7 @@ static void print_vectors(const struct lpmag_fields *of, const uint8_t *mag)
         lpmag_field(samples[i], range, &x);
         lpmag_field(samples[i + 1], range, &y);
         lpmag_field(samples[i + 2], range, &z);
-        printf("%u,%u,%u,%zu,%.10g,%.10g,%.10g\n", of->count, of->day, of->millisecond, i / 3, x, y, z);
+        printf("%" PRIu64 ",%u,%u,%zu,%.10g,%.10g,%.10g\n", count, of->day, of->millisecond, i / 3, x, y, z);
     }
 }
 
@@ -29,8 +30,8 @@ int main(int argc, char **argv)
             lpmag_refusal_words(answer, words, LPMAG_WORDS);
             fprintf(stderr, "record %zu at byte %zu: refused with %d: %s\n", n, n * LPMAG_RECORD,
                     answer, words);
-        } else if (reader.report.fields.kind != LPMAG_OTHER)
-            print_vectors(&reader.report.fields, record + LPMAG_PACKET_AT + LPMAG_MAG_AT);
+        } else if (reader.report.fields.kind != LPMAG_OTHER) /* the full count: its own goes round */
+            print_vectors(reader.state.last, &reader.report.fields, record + LPMAG_PACKET_AT + LPMAG_MAG_AT);
     }
     if (ferror(stdin))
         return fprintf(stderr, "field: the file can't be read\n"), 1;

@@ -13,7 +13,7 @@
 
 /* What is asked of the accumulation: one energy bin and one 3D energy step. */
 enum { BIN = 7, STEP = 0 };
-enum { RULES = 12, RECORDS_OF_A_READ = 256 };
+enum { RULES = 14, RECORDS_OF_A_READ = 256 };
 
 struct walk {
     struct lpmag_reader reader;

@@ -5,8 +5,9 @@
  *
  * C11 or C++11, or later.
  *
- * Papers: "01" is the rules for what is built, "000" the instrument's telemetry
- * format, "002" the archive label. All ranges "a to b" are inclusive.
+ * Papers: "01" is the rules for what is built, "02" the changes to them, "000" the
+ * instrument's telemetry format, "002" the archive label. All ranges "a to b" are
+ * inclusive.
  *
  * What the caller keeps to
  *   - A slice is a pointer and then a number of elements. Its pointer may be null
@@ -28,12 +29,12 @@
  *
  * Answers. A function whose answer is the value itself (a number in bytes, a range, an
  * angle, a kind, how many there are, the version) is marked "the value". Any other answers
- * LPMAG_OK, a refusal's number, 1 to 12, or a number from 128 on that says why there is no
- * value. In an answer of type uint8_t a number from 128 on is never a value and never a
+ * LPMAG_OK, a refusal's number, 1 to 12 or 14, or a number from 128 on that says why there
+ * is no value. In an answer of type uint8_t a number from 128 on is never a value and never a
  * refusal's.
  *
  * Refusals: the number of the first rule of this list that fails (01, "Numbers a
- * refused record gets"; lpmag_refusal_words has 01's words).
+ * refused record gets"; 02, request 1; lpmag_refusal_words has the words).
  *    1  a lent buffer isn't of its size, or the state isn't one: a flag byte other than 0
  *       and 1, a spare field other than 0, or numbers that break 01's list for the state.
  *       Every state that step, feed and finish hand out passes; so do some others
@@ -47,7 +48,17 @@
  *    9  a spare bit of the status word is set
  *   10  one of the three status flags is 00 or 11, neither 01 nor 10
  *   11  the frame's type is one of 58 to 61, which are not defined
- *   12  something was accepted before, and the count isn't above the last accepted
+ *   12  something was accepted before, and the record isn't later
+ *   14  the record's turn would be past 4,095
+ * No answer has 13.
+ *
+ * Counts. A record has a count of 24 bits, which restarts at 0 after 16,777,215. The reader
+ * counts the turns, 0 to 4,095, from the first record it accepts, and the counts of a
+ * state and of what closed are full ones: turn x 2^24 + the record's own count, below 2^36.
+ * A record is later when (its own count - that of the last accepted) modulo 2^24 is 1 to
+ * 8,388,607; where its own count is then the lower one, it begins a turn. So after
+ * 16,777,215 a record of count 0 begins a turn, and one of count 16,777,210, which was
+ * delayed, is refused with 12.
  *
  * The archive needs two functions of its surroundings, memset and memcpy, which every
  * C library has.
@@ -112,7 +123,7 @@ uint32_t lpmag_version(void);
 
 /* A major frame but for its samples. */
 struct lpmag_major {
-    uint64_t number;    /* the count divided by 16 */
+    uint64_t number;    /* the full count divided by 16 */
     uint16_t words[16]; /* the subcom word of each slot; 0 where the slot isn't held */
     uint8_t ranges[16]; /* the range 0 to 7 of each slot; 0 where it has no MAG */
     uint16_t slots;     /* the slots held, bit s of weight 2^s for slot s */
@@ -136,7 +147,7 @@ struct lpmag_accumulation {
  * to be handed from call to call: its bytes are this machine's, and nothing marks them
  * as a state, so don't store it in a file. */
 struct lpmag_state {
-    uint64_t last;    /* the last accepted count */
+    uint64_t last;    /* the full count of the last accepted record: turn x 2^24 + its own */
     uint8_t any;      /* 1 when a record was accepted, else 0 */
     uint8_t spare8;   /* 0 */
     uint16_t spare16; /* 0 */
@@ -148,7 +159,7 @@ struct lpmag_state {
 /* The fields of a record that passes rules 2 to 11. (In C++ too write `struct
  * lpmag_fields`: a function has the name as well.) */
 struct lpmag_fields {
-    uint32_t count;         /* the clock count, 24 bits */
+    uint32_t count;         /* the record's own count, 24 bits */
     uint32_t millisecond;   /* of the day */
     uint32_t level;         /* the signal level's 32 bits */
     uint32_t quality;       /* the signal quality's 32 bits */
@@ -229,7 +240,7 @@ uint8_t lpmag_packet(const uint8_t *record, size_t length, uint8_t *room, size_t
  * LPMAG_PACKET bytes. */
 uint8_t lpmag_kind(const uint8_t *packet, size_t length);
 
-/* 01's words for the number of a refusal, into a room of at least LPMAG_WORDS bytes:
+/* The words for the number of a refusal, into a room of at least LPMAG_WORDS bytes:
  * the words, then a byte of 0; what comes after stays as found. A number that no refusal
  * has gets the byte of 0 alone. Answers how many bytes the words are, the value: 0 also
  * for a smaller room, which stays as found. */

@@ -1,4 +1,5 @@
--- The open accumulation (01, "Joining accumulations").
+-- The open accumulation (01, "Joining accumulations"). Counts are full ones: "Turn x 2^24 + count takes the count's place in g, major
+-- numbers, the listing and the state list" (02, request 1).
 -- Assumes nothing.
 use Prim.Native.Nat.{ℕ, _+_, _-_, _^_}
 use mathlib.Core.Bool.{Bool, true, false, cond, not, _&&_}

@@ -9,7 +9,7 @@ use Rattle.clock.specs.Clock.{counts, begun}
 use Rattle.clock.specs.declared.Clock.{Clock}
 use Rattle.accumulation.specs.declared.Accumulation.{Accumulation}
 
--- "counts below 2^24"
+-- "counts below 2^24": full ones, so "below 2^36" (02, request 1)
 unfoldable pub countsBelow : Accumulation → Bool
 countsBelow a = ltb (a .first) counts && ltb (a .«last_count») counts
 

@@ -1,21 +1,28 @@
-// The reader's clock: what "later" means, at which count a record stands, and the clock's part of the state list (01, "Numbers a
-// refused record gets").
+// The reader's clock: what "later" means, the turns, at which full count a record stands, and the clock's part of the state list
+// (01, "Numbers a refused record gets"; 02, request 1).
 ghost use mathlib.Core.Path.{_≡_};
-ghost use Rattle.clock.specs.Clock.{arrivalAt, accepted, unset, begun, clockListed};
+ghost use Rattle.clock.specs.Clock.{ahead, arrivalAt, accepted, unset, begun, clockListed};
 
-// Whether anything was accepted, and the last accepted count.
+// Whether anything was accepted, and the full count of the last accepted record: its turn is what lies above 24 bits.
 pub struct Clock {
     pub any: bool,
     pub last: u64,
 }
 
-// Counts of the state are below it: 2^24.
-pub const COUNTS: u64 = 16777216;
+// 2^24: a record's own count goes round below it.
+const CIRCLE: u64 = 16777216;
 
-// The count at which a record stands; or it isn't above the last accepted.
+// The most counts that a later record lies ahead.
+const FARTHEST: u64 = 8388607;
+
+// Full counts of the state are below it: 2^36.
+pub const COUNTS: u64 = 68719476736;
+
+// The full count at which a record stands; or it isn't later; or its turn would be past the last.
 pub enum Arrival {
     At(u64),
     NotLater,
+    PastTurns,
 }
 
 pub fn unset() -> Clock
@@ -27,24 +34,38 @@ pub fn unset() -> Clock
     }
 }
 
-// Once a record at count d was accepted.
+// Once a record at full count d was accepted.
 pub fn accepted(d: u64) -> Clock
     ensures { λ c. ⌜ c ≡ accepted d ⌝ }
 {
     Clock { any: true, last: d }
 }
 
-// Of a record whose own field says `count`.
+// How far round the circle a count lies after that of the last accepted record.
+fn ahead(clock: Clock, count: u32) -> u64
+    ensures { λ n. ⌜ n ≡ ahead clock count ⌝ }
+{
+    (count as u64 + CIRCLE - clock.last % CIRCLE) % CIRCLE
+}
+
+// Of a record whose own field says `count`. A later one stands as far above the last accepted as it lies ahead, whatever its turn.
 pub fn arrival_of(clock: Clock, count: u32) -> Arrival
     ensures { λ a. ⌜ a ≡ arrivalAt clock count ⌝ }
 {
-    let d = count as u64;
-    if clock.any {
-        if d <= clock.last {
-            return Arrival::NotLater;
-        }
+    if !clock.any {
+        return Arrival::At(count as u64 % CIRCLE);
     }
-    Arrival::At(d)
+    let ahead = ahead(clock, count);
+    if ahead == 0 {
+        return Arrival::NotLater;
+    }
+    if FARTHEST < ahead {
+        return Arrival::NotLater;
+    }
+    if COUNTS - ahead <= clock.last {
+        return Arrival::PastTurns;
+    }
+    Arrival::At(clock.last + ahead)
 }
 
 // Was something accepted, or is the number 0?

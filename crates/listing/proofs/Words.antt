@@ -1,4 +1,4 @@
--- 01's words for a number: each row of `words` by its number, and none past it.
+-- The words for a number: each row of `words` by its number, and none past it.
 -- Assumes nothing.
 use mathlib.Core.Path.{_≡_, refl, sym, ap, subst, _∙_}
 use mathlib.Core.Bool.{Bool, true, false}
@@ -19,7 +19,7 @@ use Rattle.listing.proofs.Digits.{length-decimal}
 
 -- the numbers that have a row, 0 among them
 abbrev pub rows : ℕ
-rows = 13
+rows = 15
 
 -- all of them, one after another, how many bytes they are, and where those of each number end
 abbrev pub joined : List String → List ℕ
@@ -33,7 +33,7 @@ abbrev pub textSize : ℕ
 textSize = 324
 
 unfoldable pub ends : List ℕ
-ends = 0 ∷ 67 ∷ 83 ∷ 95 ∷ 124 ∷ 136 ∷ 150 ∷ 167 ∷ 195 ∷ 220 ∷ 238 ∷ 251 ∷ 324 ∷ []
+ends = 0 ∷ 67 ∷ 83 ∷ 95 ∷ 124 ∷ 136 ∷ 150 ∷ 167 ∷ 195 ∷ 220 ∷ 238 ∷ 251 ∷ 307 ∷ 307 ∷ 324 ∷ []
 
 abbrev pub endOf : ℕ → ℕ
 endOf k = getD ends k 0

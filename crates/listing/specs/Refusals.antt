@@ -8,8 +8,8 @@ use Rattle.listing.specs.Text.{ascii, space}
 use Rattle.listing.specs.Decimal.{decimal, digits}
 use Rattle.listing.specs.Lines.{spaced}
 
--- 01, "Numbers a refused record gets": the second column, by the number; 0 is no number and has no words, and 13 is none that an
--- answer has (02, request 11)
+-- 01, "Numbers a refused record gets": the second column, by the number; of 12 and 14 what 02 says that they mean (request 1). 0 is
+-- no number and has no words, and 13 is none that an answer has (02, request 11)
 abbrev pub words : List String
 words =
     ""
@@ -24,7 +24,9 @@ words =
     ∷ "a spare status bit is set"
     ∷ "a flag is 00 or 11"
     ∷ "type is 58-61"
-    ∷ "something was accepted before and the count isn't above the last accepted"
+    ∷ "something was accepted before and the record isn't later"
+    ∷ ""
+    ∷ "a turn past 4,095"
     ∷ []
 
 unfoldable pub wordsOf : ℕ → List ℕ
@@ -32,7 +34,7 @@ wordsOf rule = ascii (getD words rule "")
 
 -- the longest of them
 abbrev pub wordsSize : ℕ
-wordsSize = 73
+wordsSize = 67
 
 -- the words with a byte of 0 after them, as C has a text, and what is asked to be free for it
 unfoldable pub meaning : ℕ → List ℕ

@@ -23,7 +23,7 @@ pub const CLOSED: usize = 138;
 pub const REFUSED: usize = 29;
 
 // The most bytes of the line about a refused record.
-pub const REFUSAL: usize = 167;
+pub const REFUSAL: usize = 161;
 
 // Room for the words of any number, and more than they need.
 pub const MEANING: usize = 80;

@@ -9,7 +9,8 @@ use crate::decimal::put_number;
 use crate::text::put;
 use buffers::has_room;
 
-// 01's words, those of each number after those of the one before, from 1 to 12; and where they end, from no number on.
+// The words, those of each number after those of the one before, from 1 to 14, of which 13 has none; and where they end, from no
+// number on.
 const WORDS: [u8; 324] = *b"\
     a lent buffer isn't of its size, or the state breaks the list below\
     length isn't 472\
@@ -22,11 +23,28 @@ const WORDS: [u8; 324] = *b"\
     a spare status bit is set\
     a flag is 00 or 11\
     type is 58-61\
-    something was accepted before and the count isn't above the last accepted";
+    something was accepted before and the record isn't later\
+    a turn past 4,095";
 
-const ENDS: [usize; 13] = [0, 67, 83, 95, 124, 136, 150, 167, 195, 220, 238, 251, 324];
+const ENDS: [usize; 15] = [
+    0,
+    67,
+    83,
+    95,
+    124,
+    136,
+    150,
+    167,
+    195,
+    220,
+    238,
+    251,
+    307,
+    307,
+    324,
+];
 
-// 01's words for a number that an answer has; none for any other.
+// The words for a number that an answer has; none for any other.
 fn put_words(rule: u8, out: &mut [u8], at: usize) -> usize
     requires { ⌜ at + wordsSize ≤ length (now out) ⌝ }
     ensures { λ r. ⌜ Put (now (out .entry)) at (wordsOf rule) (now (out .exit)) r ⌝ }

@@ -22,6 +22,7 @@ The listing, on standard output:
   accum F N C               an electron accumulation: the count of its first
                             frame, the frames held, 83 cells for each
   refused N                 the last line: how many records were refused
+Counts go on where those of the records restart at 0: 16777216 more each time.
 
   -v   also says of each refused record, on standard error, which it is, where
        it begins, the number of the rule that it breaks and what the rule says

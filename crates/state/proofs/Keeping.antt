@@ -6,7 +6,7 @@ use Prim.Native.Nat.{_<_}
 use native.Mathlib.Omega.{arith}
 use lib.Dec.{eqb}
 use borrow.Author.Tests.{eqb-true, eqb-false}
-use Rattle.clock.specs.Clock.{counts, unset, accepted, isLater, clockListed}
+use Rattle.clock.specs.Clock.{counts, unset, accepted, isLater, hasTurn, clockListed}
 use Rattle.clock.specs.declared.Clock.{Clock}
 use Rattle.clock.proofs.Laws.{dated-above, dated-below, accepted-listed, unset-listed, unset-is}
 use Rattle.accumulation.specs.Accumulation.{noAccumulation}
@@ -16,14 +16,14 @@ use Rattle.major.specs.Major.{noMajor}
 use Rattle.major.specs.declared.Major.{Major}
 use Rattle.major.proofs.Keeping as major
 use Rattle.state.specs.List.{fresh, listed}
-use Rattle.state.specs.Deciding.{Input, fieldsOf, countAt, magRange, clockHolds, numberOf, acceptance, decidedOf}
+use Rattle.state.specs.Deciding.{Input, fieldsOf, countAt, magRange, clockHolds, turnHolds, numberOf, acceptance, decidedOf}
 use Rattle.state.specs.Ending.{ending, unended, endedOf}
 use Rattle.state.specs.Keeping.{Sound, StepKeeps, EndKeeps}
 use Rattle.state.specs.declared.State.{State}
 use Rattle.state.specs.declared.deciding.Decided.{Decided}
 use Rattle.state.proofs.Facts.{Listed, facts, is-listed}
 use Rattle.state.proofs.Numbers.{accepted-is, refused-is}
-use Rattle.state.proofs.Told.{all-pass, science-type}
+use Rattle.state.proofs.Told.{Passed, all-pass, science-type}
 
 -- nothing open passes with every clock that passes
 none-sound : (c : Clock) → clockListed c ≡ true → Sound (record { clock = c; accumulation = noAccumulation; major = noMajor })
@@ -36,20 +36,24 @@ none-sound c e = record {
 pub fresh-sound : Sound fresh
 fresh-sound = none-sound unset unset-listed
 
-clock-so : (i : Input) → clockHolds i ≡ true → isLater (i .state .clock) (fieldsOf i) ≡ true
+later-so : (i : Input) → clockHolds i ≡ true → isLater (i .state .clock) (fieldsOf i) ≡ true
 unfolding clockHolds
-clock-so i e = e
+later-so i e = e
+
+turn-so : (i : Input) → turnHolds i ≡ true → hasTurn (i .state .clock) (fieldsOf i) ≡ true
+unfolding turnHolds
+turn-so i e = e
 
 -- an accepted record
-module _ (i : Input) (sound : Sound (i .state)) (later : isLater (i .state .clock) (fieldsOf i) ≡ true) where
+module _ (i : Input) (sound : Sound (i .state)) (p : Passed i) where
   known : Listed (i .state)
   known = facts (i .state) (sound .passes)
 
   above : i .state .clock .any ≡ true → i .state .clock .last < countAt i
-  above = dated-above (i .state .clock) (fieldsOf i) later
+  above = dated-above (i .state .clock) (fieldsOf i) (later-so i (p .later))
 
   small : countAt i < counts
-  small = dated-below (i .state .clock) (i .bytes) (known .clock) later
+  small = dated-below (i .state .clock) (fieldsOf i) (turn-so i (p .turn))
 
   accepted-sound : Sound (acceptance (i .state) (fieldsOf i) (countAt i) (magRange i) .stepped .state)
   unfolding acceptance
@@ -71,7 +75,7 @@ step-sound i sound = go (eqb (numberOf i) 0) refl
     go : (t : Bool) → eqb (numberOf i) 0 ≡ t → Sound (decidedOf i .stepped .state)
     go true t =
         let e = eqb-true (numberOf i) 0 t in
-        subst⁻¹ (λ (x : Decided). Sound (x .stepped .state)) (accepted-is i e) (accepted-sound i sound (clock-so i (all-pass i e .later)))
+        subst⁻¹ (λ (x : Decided). Sound (x .stepped .state)) (accepted-is i e) (accepted-sound i sound (all-pass i e))
     go false t = subst⁻¹ (λ (x : Decided). Sound (x .stepped .state)) (refused-is i (eqb-false (numberOf i) 0 t)) sound
 
 pub ended-sound : (s : State) → Sound s → Sound (ending s .finished .state)

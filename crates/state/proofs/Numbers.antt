@@ -20,19 +20,19 @@ use Rattle.mag.specs.Samples.{range, magSized, RangeIs}
 use Rattle.mag.specs.declared.unpacking.Unpacked.{Unpacked}
 use Rattle.mag.specs.declared.unpacking.Unpacked.the-variants as unpacked
 use Rattle.state.specs.List.{listed}
-use Rattle.state.specs.Deciding.{Input, fieldsOf, countAt, magRange, stateHolds, clockHolds, readerRules, numberOf}
+use Rattle.state.specs.Deciding.{Input, fieldsOf, countAt, magRange, stateHolds, clockHolds, turnHolds, readerRules, numberOf}
 use Rattle.state.specs.Deciding.{refusal, acceptance, decidedOf, answerNumber, DecidedIs, decidedBy}
 use Rattle.state.specs.declared.State.{State}
 use Rattle.state.specs.declared.deciding.Decided.{Decided}
 
--- rule 12
+-- rules 12 and 14
 abbrev pub late : Input → ℕ
-late i = cond (clockHolds i) 0 12
+late i = cond (clockHolds i) (cond (turnHolds i) 0 14) 12
 
 pub number-is : (i : Input) → numberOf i ≡ cond (stateHolds i) (cond (eqb (broken (i .bytes)) 0) (late i) (broken (i .bytes))) 1
 unfolding numberOf readerRules firstBroken broken rules
 number-is i =
-    let own = parts-then (λ (i : Input). i .bytes) rules (rule 12 clockHolds ∷ []) i refl in
+    let own = parts-then (λ (i : Input). i .bytes) rules (rule 12 clockHolds ∷ rule 14 turnHolds ∷ []) i refl in
     ap (λ (n : ℕ). cond (stateHolds i) n 1) own
 
 -- refused with n exactly when rule n fails and those before it in the list hold
@@ -87,15 +87,17 @@ module _ (s : State) (sized : Bool) (r : List ℕ) (x : Decided) where
       abbrev taken : Decided
       taken = acceptance s (recordOf r) (countAt handed) (magRange handed)
 
-      -- rule 12
+      -- rules 12 and 14
       pub record-decided : x ≡ decidedBy s (recordOf r) (magRange handed) → DecidedIs s sized r x
-      unfolding decidedBy clockHolds
-      record-decided q = go (clockHolds handed) refl q
+      unfolding decidedBy clockHolds turnHolds
+      record-decided q = go (clockHolds handed) (turnHolds handed) refl refl q
         where
-          go : (a : Bool) → clockHolds handed ≡ a → x ≡ cond a taken (refusal s 12) → DecidedIs s sized r x
-          go false u w = is-refused 12 (number-late ∙ rw u) (omega arith) w
-          go true u w =
-              let e : numberOf handed ≡ 0 = number-late ∙ rw u in
+          go : (a b : Bool) → clockHolds handed ≡ a → turnHolds handed ≡ b → x ≡ cond a (cond b taken (refusal s 14)) (refusal s 12)
+              → DecidedIs s sized r x
+          go false b u v w = is-refused 12 (number-late ∙ rw u) (omega arith) w
+          go true false u v w = is-refused 14 (number-late ∙ rw (u, v)) (omega arith) w
+          go true true u v w =
+              let e : numberOf handed ≡ 0 = number-late ∙ rw (u, v) in
               let n = acceptance-number s (recordOf r) (countAt handed) (magRange handed) in
               record {
                 is = w ∙ sym (accepted-is handed e);

@@ -15,11 +15,12 @@ use Rattle.record.specs.Contents.{recordOf}
 use Rattle.record.proofs.Opened as opened
 use Rattle.record.proofs.Types as types
 use Rattle.tables.proofs.Conds.{two}
+use Rattle.clock.specs.Clock.{accepted}
 use Rattle.accumulation.proofs.Closing as accumulation
 use Rattle.major.specs.Major.{slotOf, continues}
 use Rattle.major.proofs.Closing as major
 use Rattle.state.specs.List.{listed}
-use Rattle.state.specs.Deciding.{Input, fieldsOf, countAt, stateHolds, clockHolds, numberOf, refusal, acceptance, decidedOf}
+use Rattle.state.specs.Deciding.{Input, fieldsOf, countAt, stateHolds, clockHolds, turnHolds, numberOf, refusal, acceptance, decidedOf}
 use Rattle.state.specs.declared.deciding.Decided.{Decided}
 use Rattle.state.proofs.Numbers.{number-is, accepted-is, refused-is}
 
@@ -29,6 +30,7 @@ pub record Passed (i : Input) : Type 0 where
   pub listed : listed (i .state) ≡ true
   pub record-passes : broken (i .bytes) ≡ 0
   pub later : clockHolds i ≡ true
+  pub turn : turnHolds i ≡ true
 
 -- a test that gives a number above 0 was passed
 past : (t : Bool) (n x : ℕ) → (n ≡ 0 → ⊥) → cond t x n ≡ 0 → (t ≡ true) × (x ≡ 0)
@@ -47,9 +49,10 @@ unfolding stateHolds
 all-pass i e =
     let a = past (stateHolds i) 1 _ (λ z. omega arith) (sym (number-is i) ∙ e) in
     let b = nought (broken (i .bytes)) _ (a .1) in
-    let c = past (clockHolds i) 12 0 (λ z. omega arith) (b .1) in
+    let c = past (clockHolds i) 12 _ (λ z. omega arith) (b .1) in
+    let d = past (turnHolds i) 14 0 (λ z. omega arith) (c .1) in
     let s = two (i .sized) (listed (i .state)) (a .0) in
-    record { sized = s .0; listed = s .1; record-passes = b .0; later = c .0 }
+    record { sized = s .0; listed = s .1; record-passes = b .0; later = c .0; turn = d .0 }
 
 pub passed-size : (i : Input) → Passed i → length (i .bytes) ≡ size
 passed-size i p = opened.sized (i .bytes) (p .record-passes)
@@ -63,9 +66,9 @@ at-work i f r e = go (eqb (numberOf i) 0) refl
     go false t = absurd (true≢false (sym e ∙ ap f (refused-is i (eqb-false (numberOf i) 0 t)) ∙ r))
 
 -- the clock after it
-pub accepted-clock : (i : Input) → numberOf i ≡ 0 → decidedOf i .stepped .state .clock .last ≡ countAt i
+pub accepted-clock : (i : Input) → numberOf i ≡ 0 → decidedOf i .stepped .state .clock ≡ accepted (countAt i)
 unfolding acceptance
-accepted-clock i e = ap (λ (x : Decided). x .stepped .state .clock .last) (accepted-is i e)
+accepted-clock i e = ap (λ (x : Decided). x .stepped .state .clock) (accepted-is i e)
 
 -- the type of a frame with science is below 36
 pub science-type : (r : List ℕ) → carriesScience (recordOf r .kind) ≡ true → recordOf r .«frame_type» < 36

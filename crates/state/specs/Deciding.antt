@@ -1,5 +1,5 @@
 -- What a record decides, from the state, the buffers' sizes and the record alone (01, "Joining accumulations", "Numbers a refused
--- record gets").
+-- record gets"; 02, request 1).
 -- Assumes nothing.
 use Prim.Native.Nat.{ℕ, _<_}
 use mathlib.Core.Bool.{Bool, true, cond, _&&_}
@@ -13,7 +13,7 @@ use Rattle.record.specs.Rules.{rules}
 use Rattle.record.specs.Contents.{recordOf}
 use Rattle.record.specs.declared.Record.{Record}
 use Rattle.mag.specs.Samples.{range}
-use Rattle.clock.specs.Clock.{isLater, dated, accepted}
+use Rattle.clock.specs.Clock.{isLater, hasTurn, dated, accepted}
 use Rattle.accumulation.specs.Accumulation.{stepAccumulation}
 use Rattle.accumulation.specs.declared.AccumulationStep.{AccumulationStep}
 use Rattle.major.specs.Major.{stepMajor}
@@ -31,7 +31,7 @@ pub record Input : Type 0 where
   pub sized : Bool
   pub bytes : List ℕ
 
--- the record's fields, the count at which it stands, and the range of its MAG bytes
+-- the record's fields, the full count at which it stands, and the range of its MAG bytes
 abbrev pub fieldsOf : Input → Record
 fieldsOf i = recordOf (i .bytes)
 
@@ -49,9 +49,14 @@ stateHolds i = i .sized && listed (i .state)
 unfoldable pub clockHolds : Input → Bool
 clockHolds i = isLater (i .state .clock) (fieldsOf i)
 
--- in 01's order; 2 to 11 are the record's own. 13, the old guard, can't hit and isn't among them (reader/specs/Guard.antt)
+-- 14
+unfoldable pub turnHolds : Input → Bool
+turnHolds i = hasTurn (i .state .clock) (fieldsOf i)
+
+-- in 01's order, 14 "straight after 12" (02, request 1); 2 to 11 are the record's own. 13, the old guard, can't hit and isn't among
+-- them (reader/specs/Guard.antt)
 unfoldable pub readerRules : List (Rule Input)
-readerRules = rule 1 stateHolds ∷ (ofPart (λ (i : Input). i .bytes) rules ++ (rule 12 clockHolds ∷ []))
+readerRules = rule 1 stateHolds ∷ (ofPart (λ (i : Input). i .bytes) rules ++ (rule 12 clockHolds ∷ rule 14 turnHolds ∷ []))
 
 -- the number of the first rule that fails, or 0
 unfoldable pub numberOf : Input → ℕ
@@ -61,7 +66,7 @@ numberOf i = firstBroken readerRules i
 abbrev pub refusal : State → ℕ → Decided
 refusal s n = record { stepped = record { answer = Refused n; state = s; closed = nothingClosed }; works = noWorks }
 
--- a record that no rule refuses, at count d: its part in the accumulation, and in the major frame
+-- a record that no rule refuses, at full count d: its part in the accumulation, and in the major frame
 abbrev pub inAccumulation : State → Record → ℕ → AccumulationStep
 inAccumulation s f d = stepAccumulation (s .accumulation) (carriesScience (f .kind)) (f .«frame_type») d
 
@@ -86,7 +91,7 @@ decidedAs i n = cond (eqb n 0) (acceptance (i .state) (fieldsOf i) (countAt i) (
 unfoldable pub decidedOf : Input → Decided
 decidedOf i = decidedAs i (numberOf i)
 
--- 01's number of each case
+-- the number of each case
 unfoldable pub answerNumber : Answer → ℕ
 answerNumber (Refused n) = n
 answerNumber (Accepted t) = 0
@@ -96,9 +101,10 @@ pub record DecidedIs (s : State) (sized : Bool) (r : List ℕ) (x : Decided) : T
   pub is : x ≡ decidedOf (record { state = s; sized = sized; bytes = r })
   pub number : answerNumber (x .stepped .answer) ≡ numberOf (record { state = s; sized = sized; bytes = r })
 
--- A step of the code: rule 12. Only a private function promises this.
+-- A step of the code: rules 12 and 14. Only a private function promises this.
 unfoldable pub decidedBy : State → Record → ℕ → Decided
-decidedBy s f range = cond (isLater (s .clock) f) (acceptance s f (dated (s .clock) f) range) (refusal s 12)
+decidedBy s f range =
+    cond (isLater (s .clock) f) (cond (hasTurn (s .clock) f) (acceptance s f (dated (s .clock) f) range) (refusal s 14)) (refusal s 12)
 
 -- what the private function asks that accepts a record at count d
 pub record Ready (s : State) (f : Record) (d : ℕ) : Type 0 where

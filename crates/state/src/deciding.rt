@@ -1,5 +1,5 @@
-// What a record decides, from the state, the buffers' sizes and the record alone: rules 1 to 12, the next state, what is reported,
-// and what is then to be done to the buffers.
+// What a record decides, from the state, the buffers' sizes and the record alone: the rules, the next state, what is reported, and
+// what is then to be done to the buffers.
 ghost use mathlib.Core.Bool.{true};
 ghost use mathlib.Core.Path.{_≡_};
 ghost use Prim.Native.Nat.{_<_};
@@ -70,7 +70,7 @@ fn refused(state: State, n: u8) -> Decided
     }
 }
 
-// A record that no rule refuses, at count d: one part for the clock, one for the accumulation, one for the major frame.
+// A record that no rule refuses, at full count d: one part for the clock, one for the accumulation, one for the major frame.
 fn accept(state: State, f: Record, d: u64, range: u8) -> Decided
     requires { ⌜ Ready state f d ⌝ }
     ensures { λ x. ⌜ x ≡ acceptance state f d range ⌝ }
@@ -113,7 +113,7 @@ fn accept(state: State, f: Record, d: u64, range: u8) -> Decided
     }
 }
 
-// A record that passes rules 1 to 11: rule 12.
+// A record that passes rules 1 to 11: rules 12 and 14.
 fn decide_by(state: State, f: Record, range: u8) -> Decided
     requires { ⌜ (listed state ≡ true) × (f .«frame_type» < 64) ⌝ }
     ensures { λ x. ⌜ x ≡ decidedBy state f range ⌝ }
@@ -122,6 +122,7 @@ fn decide_by(state: State, f: Record, range: u8) -> Decided
     match arrival {
         Arrival::At(d) => accept(state, f, d, range),
         Arrival::NotLater => refused(state, 12),
+        Arrival::PastTurns => refused(state, 14),
     }
 }
 

@@ -12,7 +12,7 @@ use Rattle.bits.specs.Twelve.{Bytes}
 use Rattle.record.specs.Layout.{frameCode}
 use Rattle.carriage.specs.Carriage.{types}
 use Rattle.stream.specs.Filling.{packet}
-use Rattle.stream.specs.Sending.{sentCount, realTime, next, Fate, kept, removed, extra, Sends, Kept, keptOf, those, isReal, reals}
+use Rattle.stream.specs.Sending.{realTime, next, Fate, kept, removed, extra, Sends, Kept, keptOf, those, reals}
 use Rattle.stream.specs.Cutting.{at, typeOf}
 use Rattle.stream.proofs.Marking.{Rising, rising-down}
 
@@ -56,14 +56,6 @@ chain (kept r ∷ xs) c k l h =
       record { bytes = p .bytes; counted = omega arith; losing = omega arith; rising = omega arith; between = omega arith; typed = p .typed },
       chain xs (c + 1) (next k r) l (h .1),
     )
-
--- the count at which a kept record was sent is the record's own
-pub own-counts : (xs : List Fate) (c k l : ℕ) → Sends c k xs → Every (λ f. sentCount (f .bytes) ≡ at f) (keptOf c k l xs)
-unfolding Sends keptOf Every
-own-counts [] c k l h = tt
-own-counts (extra x ∷ xs) c k l h = own-counts xs c k l h
-own-counts (removed r ∷ xs) c k l h = own-counts xs (c + 1) (next k r) (l + 1) (h .1)
-own-counts (kept r ∷ xs) c k l h = (h .0 .counted, own-counts xs (c + 1) (next k r) l (h .1))
 
 -- a kept real-time record: its number gives its type, and its Frame Code is a byte
 pub record Typed (f : Kept) : Type 0 where

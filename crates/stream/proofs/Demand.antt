@@ -18,8 +18,9 @@ use Rattle.stream.specs.Filling.{Filled, MajorFilled}
 use Rattle.stream.specs.Demand.{Demand3}
 use Rattle.stream.proofs.Members.{in-every}
 use Rattle.stream.proofs.Runs.{only-run, run-sound}
-use Rattle.stream.proofs.Parts.{parts, start}
-use Rattle.stream.proofs.Chains.{chain, all-typed, Typed}
+use Rattle.stream.proofs.Parts.{start}
+use Rattle.stream.proofs.Leading.{led, follows, left-parts}
+use Rattle.stream.proofs.Chains.{all-typed, Typed}
 use Rattle.stream.proofs.Grouping.{each-out}
 use Rattle.stream.proofs.Rounds.{outOf, rounds}
 use Rattle.stream.proofs.Cells.{filled}
@@ -31,11 +32,12 @@ module _ (xs : List Fate) (b : Buffers) (c k : ℕ) where
   ran : Stream c k xs b (run fresh b (fed xs)) → Demand3 c k xs (run fresh b (fed xs))
   ran w =
       let ks = unspoiled c k xs in
-      let p = parts xs k 0 c fresh b (start b c (w .right)) (w .sent) (w .refused) in
-      let chained = chain xs c k 0 (w .sent) in
-      let r = rounds ks (b .openCells) c k 0 chained in
-      let m = frames ks (b .openSamples) c k 0 chained in
-      let all-filled = each-out Joined Parted outOf Typed Filled filled (r .groups) (r .cut) (subst⁻¹ (Every Typed) (r .whole) (all-typed ks c k 0 chained)) in
+      let p = left-parts xs c k b (start b (w .right)) (w .sent) (follows xs c k (w .sent) (w .near) (w .within)) (w .refused) in
+      let l = led xs c k (w .sent) in
+      let r = rounds ks (b .openCells) (l .count) (l .serial) 0 (l .chained) in
+      let m = frames ks (b .openSamples) (l .count) (l .serial) 0 (l .chained) in
+      let typed = all-typed ks (l .count) (l .serial) 0 (l .chained) in
+      let all-filled = each-out Joined Parted outOf Typed Filled filled (r .groups) (r .cut) (subst⁻¹ (Every Typed) (r .whole) typed) in
       let any = in-every (λ x. Unit {0}) (flat (m .groups)) (λ f i. tt) in
       let majors-filled = each-out Beside Behind majorOf (λ x. Unit {0}) MajorFilled (λ x xs u l. major-filled x xs l) (m .groups) (m .cut) any in
       let parts-out = subst⁻¹ (Pairwise Filled (r .groups)) (p .cells ∙ r .is) all-filled in

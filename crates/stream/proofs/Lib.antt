@@ -1,6 +1,7 @@
 pub mod Runs
 pub mod Calls
 pub mod Parts
+pub mod Leading
 pub mod Spoiling
 pub mod Chains
 pub mod Grouping
@@ -20,7 +21,11 @@ pub mod OwnCells
 pub mod OwnSlots
 pub mod Once
 pub mod Law
+pub mod Unwrapped
 pub mod Pairs
 pub mod Made
+pub mod Silence
 pub mod Tight
+pub mod Far
+pub mod Around
 pub mod Readers

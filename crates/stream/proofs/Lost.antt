@@ -79,7 +79,7 @@ all-ones b (suc n) = omega (arith, all-ones b n, one (b n))
     one false = refl
 
 module _ (ks : List Kept) (c k l : ℕ) (h : Chain c k l ks) (p f : Kept) (i : In p ks) (j : In f ks) (up : at p < at f) where
-  unaccepted-lost : unaccepted ks (at p) (at f) ≡ lostBetween p f
+  pub unaccepted-lost : unaccepted ks (at p) (at f) ≡ lostBetween p f
   unaccepted-lost =
       let m = at f - (at p + 1) in
       let e : at p + 1 + m ≡ at f = omega arith in

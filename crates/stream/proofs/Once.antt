@@ -17,7 +17,8 @@ use Rattle.stream.specs.Once.{OnceEach, Own}
 use Rattle.stream.proofs.Sums.{filled-total}
 use Rattle.stream.proofs.Filled.{filled-held}
 use Rattle.stream.proofs.Lost.{real-lost}
-use Rattle.stream.proofs.Chains.{rising-counts, rising-serials, chain, all-typed}
+use Rattle.stream.proofs.Chains.{rising-counts, rising-serials, all-typed}
+use Rattle.stream.proofs.Leading.{led}
 use Rattle.stream.proofs.Those.{rising-those}
 use Rattle.stream.proofs.Demand.{demand-3}
 use Rattle.stream.proofs.OwnCells.{all-tied, own-once, own-stands, all-unmixed, torn-where}
@@ -28,24 +29,26 @@ once-each xs b c k t w a =
     let d = demand-3 xs b c k t w a in
     let ks = unspoiled c k xs in
     let rs = reals ks in
-    let chained = chain xs c k 0 (w .sent) in
-    let counts = rising-counts ks c k 0 chained in
-    let real-counts = rising-those isReal at ks c counts in
-    let serials = rising-serials ks c k 0 chained in
-    let known = all-typed ks c k 0 chained in
+    let l = led xs c k (w .sent) in
+    let n = l .count in
+    let m = l .serial in
+    let counts = rising-counts ks n m 0 (l .chained) in
+    let real-counts = rising-those isReal at ks n counts in
+    let serials = rising-serials ks n m 0 (l .chained) in
+    let known = all-typed ks n m 0 (l .chained) in
     let parts = all-tied Joined Parted Filled (d .parts) (accumulations t) (d .parts-cut) (d .parts-out) in
     record {
-      one = own-once rs c k real-counts serials known (d .parts) (accumulations t) (d .parts-whole) parts;
-      there = own-stands rs c k real-counts serials known (d .parts) (accumulations t) (d .parts-whole) parts;
-      unmixed = all-unmixed rs c k real-counts serials known (d .parts) (accumulations t) (d .parts-whole) parts;
+      one = own-once rs n m real-counts serials known (d .parts) (accumulations t) (d .parts-whole) parts;
+      there = own-stands rs n m real-counts serials known (d .parts) (accumulations t) (d .parts-whole) parts;
+      unmixed = all-unmixed rs n m real-counts serials known (d .parts) (accumulations t) (d .parts-whole) parts;
       filled =
-          filled-held rs (accumulations t) (all-unmixed rs c k real-counts serials known (d .parts) (accumulations t) (d .parts-whole) parts)
+          filled-held rs (accumulations t) (all-unmixed rs n m real-counts serials known (d .parts) (accumulations t) (d .parts-whole) parts)
           ∙ filled-total (d .parts) (accumulations t) (d .parts-out)
           ∙ ap (λ (g : List Kept). scienceSize * length g) (d .parts-whole);
-      torn = λ p f n r.
-          subst⁻¹ (λ (m : ℕ). Some (λ a. Own rs p a × Own rs f a) (accumulations t) ⊎ (tears ≤ m)) (real-lost ks c k 0 chained p f n)
-          (torn-where rs c k real-counts serials known (d .parts) (accumulations t) (d .parts-whole) parts (d .parts-cut) p f n r);
-      one-major = major-once ks c counts (d .major-parts) (majors t) (d .major-whole) (d .major-out);
-      there-major = major-slotted ks c counts (d .major-parts) (majors t) (d .major-whole) (d .major-out);
-      unmixed-major = majors-unmixed ks c counts (d .major-parts) (majors t) (d .major-whole) (d .major-out);
+      torn = λ p f q r.
+          subst⁻¹ (λ (g : ℕ). Some (λ a. Own rs p a × Own rs f a) (accumulations t) ⊎ (tears ≤ g)) (real-lost ks n m 0 (l .chained) p f q)
+          (torn-where rs n m real-counts serials known (d .parts) (accumulations t) (d .parts-whole) parts (d .parts-cut) p f q r);
+      one-major = major-once ks n counts (d .major-parts) (majors t) (d .major-whole) (d .major-out);
+      there-major = major-slotted ks n counts (d .major-parts) (majors t) (d .major-whole) (d .major-out);
+      unmixed-major = majors-unmixed ks n counts (d .major-parts) (majors t) (d .major-whole) (d .major-out);
     }

@@ -1,17 +1,27 @@
--- A cutting of one record, and of two: each by itself, or both together.
+-- One record, and two: the counts between them, and a cutting of them, each by itself, or both together.
 -- Assumes nothing.
 use mathlib.Core.Path.{_≡_, ap}
 use mathlib.Core.List.{List, [], _∷_, _++_}
 use mathlib.Core.Logic.{_⊎_, inl, inr}
-use Prim.Native.Nat.{ℕ, suc}
+use Prim.Native.Nat.{ℕ, suc, _+_, _-_, _<_}
 use native.Mathlib.Omega.{arith}
 use lib.ListN.{length}
-use Rattle.stream.specs.Lists.{flat, Linked, final, Across, Cut}
-use Rattle.stream.specs.Sending.{Kept}
+use Rattle.clock.specs.Clock.{farthest}
+use Rattle.stream.specs.Lists.{Neighbours, flat, Linked, final, Across, Cut}
+use Rattle.stream.specs.Sending.{Kept, Near}
 use Rattle.stream.proofs.Members.{of-both}
 
 heads : (x y p f : Kept) (xs : List Kept) → x ∷ y ∷ xs ≡ p ∷ f ∷ [] → (x ≡ p) × (y ≡ f)
 heads x y p f xs e = (cc, cc)
+
+pub near-one : (p : Kept) → Near (p ∷ [])
+unfolding Neighbours
+near-one p q f n = absurd n
+
+pub near-two : (p f : Kept) → f .count - (p .count + 1) < farthest → Near (p ∷ f ∷ [])
+unfolding Neighbours
+near-two p f h q g (inl e) = of-both (λ x y. y .count - (x .count + 1) < farthest) p f q g e h
+near-two p f h q g (inr n) = absurd n
 
 pub of-one : (R S : Kept → Kept → Type 0) (p : Kept) (gs : List (List Kept)) → flat gs ≡ p ∷ [] → Cut R S gs → gs ≡ (p ∷ []) ∷ []
 unfolding flat Cut

@@ -1,8 +1,8 @@
 -- Over a sent stream: what is kept is accepted, and the accumulations and the major frames handed out are those of the kept
 -- records alone, each kind by itself.
 -- Assumes nothing.
-use mathlib.Core.Path.{_≡_, subst, subst⁻¹, _∙_}
-use mathlib.Core.Bool.{Bool, true, false, cond, _&&_, false≢true}
+use mathlib.Core.Path.{_≡_, ap, subst, subst⁻¹, _∙_}
+use mathlib.Core.Bool.{Bool, true, false, cond, _&&_}
 use mathlib.Core.List.{List, [], _∷_}
 use Prim.Native.Nat.{ℕ, _+_, _*_, _<_}
 use native.Mathlib.Omega.{arith}
@@ -19,12 +19,13 @@ use Rattle.record.specs.Contents.{recordOf}
 use Rattle.mag.specs.Samples.{samplesSize, sample, samples}
 use Rattle.cells.specs.Laying.{cellsSize, laidFrame}
 use Rattle.cells.proofs.Laws.{length-frame}
-use Rattle.clock.specs.Clock.{isLater, dated}
-use Rattle.clock.proofs.Laws.{stands}
+use Rattle.clock.specs.Clock.{ownOf, isLater, hasTurn, dated, accepted}
+use Rattle.clock.specs.declared.Clock.{Clock}
+use Rattle.clock.proofs.Laws.{Follows, stands}
 use Rattle.major.specs.Major.{frameSamples}
 use Rattle.major.specs.declared.SlotWork.{SlotWork}
 use Rattle.state.specs.List.{listed, fresh}
-use Rattle.state.specs.Deciding.{stateHolds, clockHolds, numberOf, decidedOf, answerNumber}
+use Rattle.state.specs.Deciding.{stateHolds, clockHolds, turnHolds, numberOf, decidedOf, answerNumber}
 use Rattle.state.specs.Ending.{endedOf}
 use Rattle.state.specs.Keeping.{Sound}
 use Rattle.state.specs.declared.State.{State}
@@ -35,6 +36,7 @@ use Rattle.reader.specs.Buffers.{Buffers, sizedBy, sized, copiedBy, clearedBy, 
 use Rattle.reader.specs.Steps.{input}
 use Rattle.reader.proofs.Lengths.{Sizes, sizes, length-cleared}
 use Rattle.stream.specs.Running.{Call, Trace, step, called, run, traceOf, accumulations, majors}
+use Rattle.stream.specs.Cutting.{at}
 use Rattle.stream.specs.Sending.{sentCount, next, Fate, kept, removed, extra, Sends, fed, ExtraRefused, KeptAccepted, Kept, keptOf}
 use Rattle.stream.proofs.Runs.{answered, finished}
 use Rattle.stream.proofs.Calls.{accumulate, collect, cells-out, samples-out, refused-call, cells-call, samples-call}
@@ -83,41 +85,50 @@ call-sized s b r z =
           copied-size (w .samples .work .copies) (b .openSamples) (b .finishedSamples) frameSamples (z .samples) (z .finished-samples);
     }
 
--- a reader that a record sent at count c or later is later for
-pub record Ready (s : State) (b : Buffers) (c : ℕ) : Type 0 where
+-- a reader that takes records
+pub record Ready (s : State) (b : Buffers) : Type 0 where
   pub sound : Sound s
   pub sized : Lengths b
-  pub behind : s .clock .any ≡ true → s .clock .last < c
 
-pub start : (b : Buffers) (c : ℕ) → sized b ≡ true → Ready fresh b c
-start b c z = record { sound = fresh-sound; sized = sizes _ _ _ _ z; behind = λ e. absurd (false≢true e) }
+pub start : (b : Buffers) → sized b ≡ true → Ready fresh b
+start b z = record { sound = fresh-sound; sized = sizes _ _ _ _ z }
 
--- the record that was sent at count c stands there
-pub stands-at : (s : State) (b : Buffers) (c : ℕ) → Ready s b c → (r : List ℕ) → sentCount r ≡ c
-    → (isLater (s .clock) (recordOf r) ≡ true) × (dated (s .clock) (recordOf r) ≡ c)
+-- each of the records can follow the clock that the one before it left
+unfoldable pub Follow : Clock → List Kept → Type 0
+Follow c [] = Unit {0}
+Follow c (x ∷ ks) = Follows c (at x) × Follow (accepted (at x)) ks
+
+-- the record of full count c stands there
+pub record Stood (s : State) (c : ℕ) (r : List ℕ) : Type 0 where
+  pub later : isLater (s .clock) (recordOf r) ≡ true
+  pub turn : hasTurn (s .clock) (recordOf r) ≡ true
+  pub count : dated (s .clock) (recordOf r) ≡ c
+
+pub stands-at : (s : State) (c : ℕ) → Follows (s .clock) c → (r : List ℕ) → sentCount r ≡ ownOf c → Stood s c r
 unfolding sentCount
-stands-at s b c h r e = stands (s .clock) (recordOf r) c e (h .behind)
+stands-at s c h r e = let t = stands (s .clock) c h (recordOf r) e in record { later = t .0; turn = t .1; count = t .2 }
 
--- it accepts a record that passes rules 2 to 11
-pub accepts : (s : State) (b : Buffers) (r : List ℕ) → Sound s → Lengths b → broken r ≡ 0 → isLater (s .clock) (recordOf r) ≡ true
-    → numberOf (input s b r) ≡ 0
-unfolding stateHolds clockHolds
-accepts s b r h z e l = number-is (input s b r) ∙ rw (is-sized b z, h .passes, eq-eqb (broken r) 0 e, l)
+module _ (s : State) (b : Buffers) (c : ℕ) (r : List ℕ) (h : Ready s b) (t : Stood s c r) where
+  -- it accepts a record that passes rules 2 to 11
+  pub accepts : broken r ≡ 0 → numberOf (input s b r) ≡ 0
+  unfolding stateHolds clockHolds turnHolds
+  accepts e = number-is (input s b r) ∙ rw (is-sized b (h .sized), h .sound .passes, eq-eqb (broken r) 0 e, t .later, t .turn)
 
--- and is ready for the next count
-pub moves : (s : State) (b : Buffers) (r : List ℕ) (c : ℕ) → Ready s b c → dated (s .clock) (recordOf r) ≡ c → numberOf (input s b r) ≡ 0
-    → Ready (called s b r .result .state) (called s b r .left) (c + 1)
+  -- and has its count then
+  pub clock-after : numberOf (input s b r) ≡ 0 → called s b r .result .state .clock ≡ accepted c
+  unfolding called
+  clock-after n = accepted-clock (input s b r) n ∙ ap (λ (d : ℕ). accepted d) (t .count)
+
+-- whatever it is handed, it takes records then
+pub moves : (s : State) (b : Buffers) (r : List ℕ) → Ready s b → Ready (called s b r .result .state) (called s b r .left)
 unfolding called
-moves s b r c h e n = record {
-  sound = step-sound (input s b r) (h .sound);
-  sized = call-sized s b r (h .sized);
-  behind = λ a. omega (arith, accepted-clock (input s b r) n, e);
-}
+moves s b r h = record { sound = step-sound (input s b r) (h .sound); sized = call-sized s b r (h .sized) }
 
-pub record Parts (c k l : ℕ) (xs : List Fate) (s : State) (b : Buffers) : Type 0 where
+-- what becomes of fates of which the records ks are kept
+pub record Parts (ks : List Kept) (xs : List Fate) (s : State) (b : Buffers) : Type 0 where
   pub accepted : KeptAccepted xs (run s b (fed xs))
-  pub cells : accumulations (run s b (fed xs)) ≡ accumulate (s .accumulation) (b .openCells) (keptOf c k l xs)
-  pub samples : majors (run s b (fed xs)) ≡ collect (s .major) (b .openSamples) (keptOf c k l xs)
+  pub cells : accumulations (run s b (fed xs)) ≡ accumulate (s .accumulation) (b .openCells) ks
+  pub samples : majors (run s b (fed xs)) ≡ collect (s .major) (b .openSamples) ks
 
 is-accepted : (s : State) (b : Buffers) (r : List ℕ) → numberOf (input s b r) ≡ 0 → answerNumber (called s b r .result .answer) ≡ 0
 unfolding called
@@ -128,9 +139,9 @@ abbrev behind : Call → List (List ℕ) → Trace
 behind y rs = run (y .result .state) (y .left) rs
 
 -- nothing more is fed: finish
-ends : (k l c : ℕ) (s : State) (b : Buffers) → Ready s b c → Parts c k l [] s b
-unfolding traceOf fed keptOf KeptAccepted accumulations majors accumulate collect endedOf
-ends k l c s b h =
+pub ends : (s : State) (b : Buffers) → Ready s b → Parts [] [] s b
+unfolding traceOf fed KeptAccepted accumulations majors accumulate collect endedOf
+ends s b h =
     let t : (sized b && listed s) ≡ true = rw (is-sized b (h .sized)) (h .sound .passes) in
     record {
       accepted = finished s (sized b) ∙ rw t;
@@ -138,31 +149,42 @@ ends k l c s b h =
       samples = rw t (samples-out (s .major) (b .openSamples) (b .finishedSamples));
     }
 
-pub parts : (xs : List Fate) (k l c : ℕ) (s : State) (b : Buffers) → Ready s b c → Sends c k xs → ExtraRefused xs (run s b (fed xs)) → Parts c k l xs s b
-unfolding traceOf fed keptOf Sends ExtraRefused KeptAccepted accumulations majors
-parts [] k l c s b h w q = ends k l c s b h
-parts (removed r ∷ xs) k l c s b h w q =
-    let v = parts xs (next k r) (l + 1) (c + 1) s b (record { sound = h .sound; sized = h .sized; behind = λ a. omega (arith, h .behind a) }) (w .1) q in
-    record { accepted = v .accepted; cells = v .cells; samples = v .samples }
-parts (extra x ∷ xs) k l c s b h w q =
-    let e = refused-call s b x (q .0) in
-    let ks = keptOf c k l xs in
-    let v = parts xs k l c s b h w (subst (λ (y : Call). ExtraRefused xs (behind y (fed xs))) e (q .1)) in
-    record {
-      accepted = subst⁻¹ (λ (y : Call). KeptAccepted xs (behind y (fed xs))) e (v .accepted);
-      cells = subst⁻¹ (λ (y : Call). accumulations (step y (behind y (fed xs))) ≡ accumulate (s .accumulation) (b .openCells) ks) e (v .cells);
-      samples = subst⁻¹ (λ (y : Call). majors (step y (behind y (fed xs))) ≡ collect (s .major) (b .openSamples) ks) e (v .samples);
-    }
-parts (kept r ∷ xs) k l c s b h w q =
+-- one more that was sent and not fed, and one more that was fed and is refused
+module _ (ks : List Kept) (xs : List Fate) (s : State) (b : Buffers) where
+  pub lost-one : (r : List ℕ) → Parts ks xs s b → Parts ks (removed r ∷ xs) s b
+  unfolding fed KeptAccepted
+  lost-one r v = record { accepted = v .accepted; cells = v .cells; samples = v .samples }
+
+  pub extra-one : (x : List ℕ) → ExtraRefused (extra x ∷ xs) (run s b (fed (extra x ∷ xs)))
+      → (ExtraRefused xs (run s b (fed xs)) → Parts ks xs s b) → Parts ks (extra x ∷ xs) s b
+  unfolding traceOf fed ExtraRefused KeptAccepted accumulations majors
+  extra-one x q v =
+      let e = refused-call s b x (q .0) in
+      let p = v (subst (λ (y : Call). ExtraRefused xs (behind y (fed xs))) e (q .1)) in
+      record {
+        accepted = subst⁻¹ (λ (y : Call). KeptAccepted xs (behind y (fed xs))) e (p .accepted);
+        cells = subst⁻¹ (λ (y : Call). accumulations (step y (behind y (fed xs))) ≡ accumulate (s .accumulation) (b .openCells) ks) e (p .cells);
+        samples = subst⁻¹ (λ (y : Call). majors (step y (behind y (fed xs))) ≡ collect (s .major) (b .openSamples) ks) e (p .samples);
+      }
+
+pub parts : (xs : List Fate) (k l c : ℕ) (s : State) (b : Buffers) → Ready s b → Sends c k xs → Follow (s .clock) (keptOf c k l xs)
+    → ExtraRefused xs (run s b (fed xs)) → Parts (keptOf c k l xs) xs s b
+unfolding traceOf fed keptOf Sends Follow ExtraRefused KeptAccepted
+parts [] k l c s b h w f q = ends s b h
+parts (removed r ∷ xs) k l c s b h w f q =
+    lost-one (keptOf (c + 1) (next k r) (l + 1) xs) xs s b r (parts xs (next k r) (l + 1) (c + 1) s b h (w .1) f q)
+parts (extra x ∷ xs) k l c s b h w f q = extra-one (keptOf c k l xs) xs s b x q (parts xs k l c s b h w f)
+parts (kept r ∷ xs) k l c s b h w f q =
     let p = w .0 in
     let x : Kept = record { bytes = r; count = c; serial = k; lost = l } in
-    let d = stands-at s b c h r (p .counted) in
-    let n = accepts s b r (h .sound) (h .sized) (p .passes) (d .0) in
-    let v = parts xs (next k r) l (c + 1) (called s b r .result .state) (called s b r .left) (moves s b r c h (d .1) n) (w .1) q in
-    let t = behind (called s b r) (fed xs) in
+    let d = stands-at s c (f .0) r (p .counted) in
+    let n = accepts s b c r h d (p .passes) in
     let ks = keptOf (c + 1) (next k r) l xs in
+    let g = subst⁻¹ (λ (y : Clock). Follow y ks) (clock-after s b c r h d n) (f .1) in
+    let v = parts xs (next k r) l (c + 1) (called s b r .result .state) (called s b r .left) (moves s b r h) (w .1) g q in
+    let t = behind (called s b r) (fed xs) in
     record {
       accepted = (is-accepted s b r n, v .accepted);
-      cells = cells-call s b x n (d .1) t ks (h .sized .cells) (v .cells);
-      samples = samples-call s b x n (d .1) t ks (h .sized .samples) (v .samples);
+      cells = cells-call s b x n (d .count) t ks (h .sized .cells) (v .cells);
+      samples = samples-call s b x n (d .count) t ks (h .sized .samples) (v .samples);
     }

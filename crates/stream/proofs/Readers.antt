@@ -21,7 +21,8 @@ use Rattle.cells.specs.Raw.{holdsCell}
 use Rattle.cells.specs.Laying.{cellsSize}
 use Rattle.listing.specs.Lines.{framesHeld, cellsHeld}
 use Rattle.accumulation.specs.Accumulation.{joins, started}
-use Rattle.clock.specs.Clock.{isLater, dated}
+use Rattle.clock.specs.declared.Clock.{Clock}
+use Rattle.clock.proofs.Laws.{Follows, follows-none, follows-last}
 use Rattle.state.specs.Deciding.{numberOf, answerNumber}
 use Rattle.state.specs.List.{fresh}
 use Rattle.accumulation.specs.declared.AccumulationReport.{AccumulationReport}
@@ -29,12 +30,12 @@ use Rattle.accumulation.specs.declared.Gap.the-variants.{Joins}
 use Rattle.state.specs.declared.deciding.Answer.{Answer}
 use Rattle.state.specs.declared.State.{State}
 use Rattle.state.proofs.Told.{all-pass, passed-size}
-use Rattle.state.proofs.Keeping.{fresh-sound}
 use Rattle.reader.specs.Buffers.{Buffers}
 use Rattle.reader.specs.Steps.{input}
 use Rattle.stream.specs.Running.{Reader, Call, Trace, traceOf, called, ClosedAccumulation, accumulationOut, accumulations}
 use Rattle.stream.specs.Lists.{Pairwise, sum}
-use Rattle.stream.specs.Sending.{Fate, kept, Sends, fed, ExtraRefused, Stream, Kept, keptOf, those, realUnspoiled, KeptAccepted}
+use Rattle.stream.specs.Sending.{Fate, kept, Sends, fed, ExtraRefused, KeptAccepted, Kept, keptOf, those, reals}
+use Rattle.stream.specs.Sending.{unspoiled, realUnspoiled, Near, WithinTurns, Stream}
 use Rattle.stream.specs.Cutting.{at, typeOf, Joined, Parted}
 use Rattle.stream.specs.Filling.{Filled, packet}
 use Rattle.stream.specs.Demand.{cellsListed}
@@ -45,9 +46,9 @@ use Rattle.stream.proofs.Counting.{total-none}
 use Rattle.stream.proofs.Filled.{filledIn}
 use Rattle.stream.proofs.Runs.{answered, only-call}
 use Rattle.stream.proofs.Calls.{opening, joining}
-use Rattle.stream.proofs.Parts.{Ready, stands-at, accepts, moves, start}
-use Rattle.stream.proofs.Pairs.{Split, Whole, of-two, of-one}
-use Rattle.stream.proofs.Made.{lent, lent-lengths, lent-sized, made, Right, five, six, real-five, real-six, sent-five, sent-six}
+use Rattle.stream.proofs.Parts.{Ready, Stood, stands-at, accepts, clock-after, moves, start}
+use Rattle.stream.proofs.Pairs.{Split, Whole, of-two, of-one, near-one, near-two}
+use Rattle.stream.proofs.Made.{lent, lent-sized, made, Right, five, six, real-five, real-six, sent-five, sent-six}
 
 -- type 5 at count 100 to the fresh reader, then type 6 at count 101
 first : Kept
@@ -57,32 +58,35 @@ second : Kept
 second = record { bytes = made 101 6; count = 101; serial = 6; lost = 0 }
 
 is-five : Right 100 5
-is-five = five 100 (omega arith) (omega arith)
+is-five = five 100
 
 is-six : Right 101 6
-is-six = six 101 (omega arith) (omega arith)
+is-six = six 101
 
-first-stands : (isLater (fresh .clock) (recordOf (made 100 5)) ≡ true) × (dated (fresh .clock) (recordOf (made 100 5)) ≡ 100)
-first-stands = stands-at fresh lent 100 (start lent 100 lent-sized) (made 100 5) (is-five .counted)
+first-stands : Stood fresh 100 (made 100 5)
+first-stands = stands-at fresh 100 (follows-none 100 (omega arith)) (made 100 5) (is-five .counted)
+
+ready : Ready fresh lent
+ready = start lent lent-sized
 
 first-passes : numberOf (input fresh lent (made 100 5)) ≡ 0
-first-passes = accepts fresh lent (made 100 5) fresh-sound lent-lengths (is-five .passes) (first-stands .0)
+first-passes = accepts fresh lent 100 (made 100 5) ready first-stands (is-five .passes)
 
 abbrev now : Call
 now = called fresh lent (made 100 5)
 
 first-opens : now .result .state .accumulation ≡ started (typeOf first) (at first)
 unfolding joins first
-first-opens = opening fresh lent first first-passes (first-stands .1) (real-five 100) refl
+first-opens = opening fresh lent first first-passes (first-stands .count) (real-five 100) refl
 
-ready : Ready (now .result .state) (now .left) 101
-ready = moves fresh lent (made 100 5) 100 (start lent 100 lent-sized) (first-stands .1) first-passes
-
-second-stands : (isLater (now .result .state .clock) (recordOf (made 101 6)) ≡ true) × (dated (now .result .state .clock) (recordOf (made 101 6)) ≡ 101)
-second-stands = stands-at (now .result .state) (now .left) 101 ready (made 101 6) (is-six .counted)
+second-stands : Stood (now .result .state) 101 (made 101 6)
+second-stands =
+    let e = clock-after fresh lent 100 (made 100 5) ready first-stands first-passes in
+    let f = subst⁻¹ (λ (y : Clock). Follows y 101) e (follows-last 100 101 (omega arith) (omega arith) (omega arith)) in
+    stands-at (now .result .state) 101 f (made 101 6) (is-six .counted)
 
 second-passes : numberOf (input (now .result .state) (now .left) (made 101 6)) ≡ 0
-second-passes = accepts (now .result .state) (now .left) (made 101 6) (ready .sound) (ready .sized) (is-six .passes) (second-stands .0)
+second-passes = accepts (now .result .state) (now .left) 101 (made 101 6) (moves fresh lent (made 100 5) ready) second-stands (is-six .passes)
 
 second-joins : joins (now .result .state .accumulation) (typeOf second) (at second) ≡ true
 unfolding joins first second
@@ -117,7 +121,7 @@ module _ (R : Reader) (keeps : Keeps R) where
   says-joins h =
       let s = now .result .state in
       let b = now .left in
-      let j = joining s b second second-passes (second-stands .1) (real-six 101) second-joins in
+      let j = joining s b second second-passes (second-stands .count) (real-six 101) second-joins in
       h s b (made 101 6) (record { fields = recordOf (made 101 6); gap = Joins })
       (ap (λ (x : Call). x .result .answer) (is-call s b (made 101 6)) ∙ j) refl
 
@@ -128,13 +132,21 @@ one = kept (made 100 5) ∷ []
 pair : List Fate
 pair = kept (made 100 5) ∷ kept (made 101 6) ∷ []
 
+left-one : unspoiled 100 5 one ≡ first ∷ []
+unfolding one unspoiled keptOf first
+left-one = refl
+
+left-both : unspoiled 100 5 pair ≡ first ∷ second ∷ []
+unfolding pair unspoiled keptOf first second
+left-both = rw (real-five 100)
+
 real-one : realUnspoiled 100 5 one ≡ first ∷ []
-unfolding one keptOf those first
-real-one = rw (real-five 100)
+unfolding those first
+real-one = ap reals left-one ∙ rw (real-five 100)
 
 real-both : realUnspoiled 100 5 pair ≡ first ∷ second ∷ []
-unfolding pair keptOf those first second
-real-both = rw (real-five 100, real-six 101)
+unfolding those first second
+real-both = ap reals left-both ∙ rw (real-five 100, real-six 101)
 
 -- what is handed out by one that stores nothing
 out-lent : (r : AccumulationReport) (c d : List ℕ) → c ≡ d → Every (λ a. a .cells ≡ d) (accumulationOut r c)
@@ -190,12 +202,20 @@ module _ (R : Reader) where
 
   stream-one : Stream 100 5 one lent traceOne
   unfolding one Sends fed ExtraRefused traceOf
-  stream-one = record { sent = (sent-five 100 5 (omega arith) (omega arith) refl, tt); right = lent-sized; refused = tt }
+  stream-one = record {
+    sent = (sent-five 100 5 refl, tt);
+    near = subst⁻¹ Near left-one (near-one first);
+    within = unfold first Every in subst⁻¹ WithinTurns left-one (omega arith, tt);
+    right = lent-sized;
+    refused = tt;
+  }
 
   stream-both : Stream 100 5 pair lent traceBoth
   unfolding pair Sends fed ExtraRefused traceOf
   stream-both = record {
-    sent = (sent-five 100 5 (omega arith) (omega arith) refl, (rw (real-five 100) (sent-six 101 6 (omega arith) (omega arith) refl), tt));
+    sent = (sent-five 100 5 refl, (rw (real-five 100) (sent-six 101 6 refl), tt));
+    near = unfold first second in subst⁻¹ Near left-both (near-two first second (omega arith));
+    within = unfold first second Every in subst⁻¹ WithinTurns left-both (omega arith, (omega arith, tt));
     right = lent-sized;
     refused = tt;
   }

@@ -1,11 +1,10 @@
 -- Demand 3's 36 is the best bound: a stream that is torn by 36 lost counts, and none by fewer.
 -- Assumes nothing.
-use native.Mathlib.Nat.{add-zero}
 use mathlib.Core.Path.{_≡_, refl, sym, ap, subst, subst⁻¹, _∙_}
-use mathlib.Core.Bool.{true, false, true≢false}
+use mathlib.Core.Bool.{true, true≢false}
 use mathlib.Core.List.{List, [], _∷_}
-use mathlib.Core.Logic.{_⊎_, inl, inr, ⊎-elim}
-use Prim.Native.Nat.{ℕ, zero, suc, _+_, _-_, _<_, _≤_}
+use mathlib.Core.Logic.{inl, inr, ⊎-elim}
+use Prim.Native.Nat.{ℕ, _<_, _≤_}
 use native.Mathlib.Omega.{arith}
 use Rattle.tables.specs.Marks.{bitSet}
 use Rattle.tables.specs.Every.{Every}
@@ -13,18 +12,20 @@ use Rattle.carriage.specs.Carriage.{types}
 use Rattle.state.specs.List.{fresh}
 use Rattle.stream.specs.Lists.{Some, Pairwise, Neighbours}
 use Rattle.stream.specs.Running.{Trace, run, traceOf, ClosedAccumulation, accumulations}
-use Rattle.stream.specs.Sending.{next, Fate, kept, removed, Sends, fed, ExtraRefused, Stream, Kept, keptOf, those, realUnspoiled, unspoiled}
+use Rattle.stream.specs.Sending.{Fate, kept, Sends, fed, ExtraRefused, Kept, keptOf, those, reals}
+use Rattle.stream.specs.Sending.{unspoiled, realUnspoiled, Near, WithinTurns, Stream}
 use Rattle.stream.specs.Cutting.{typeOf, tears, Joined, Parted, at, unaccepted}
 use Rattle.stream.specs.Filling.{Filled}
 use Rattle.stream.specs.Once.{Own}
 use Rattle.stream.specs.Tight.{TornBy, Tight}
-use Rattle.stream.proofs.Chains.{chain}
+use Rattle.stream.proofs.Leading.{led}
 use Rattle.stream.proofs.Lost.{real-lost}
 use Rattle.stream.proofs.Runs.{run-allowed}
 use Rattle.stream.proofs.Demand.{demand-3}
 use Rattle.stream.proofs.Once.{once-each}
-use Rattle.stream.proofs.Pairs.{Split, Whole, of-two}
-use Rattle.stream.proofs.Made.{lent, lent-sized, made, five, six, real-five, real-six, other-filler, sent-five, sent-six, sent-filler}
+use Rattle.stream.proofs.Pairs.{Split, Whole, of-two, near-two}
+use Rattle.stream.proofs.Made.{lent, lent-sized, made, five, six, real-five, real-six, sent-five, sent-six}
+use Rattle.stream.proofs.Silence.{lose, lose-sent, lose-kept, lose-refused, lose-fed}
 
 neither : (P Q : ClosedAccumulation → Type 0) (xs : List ClosedAccumulation) → Every (λ a. P a → Q a → ⊥) xs → Some (λ a. P a × Q a) xs → ⊥
 unfolding Every Some
@@ -45,39 +46,6 @@ none-below n h t =
     (λ (s : tears ≤ unaccepted ks (at (t .before)) (at (t .after))). omega (arith, t .lost))
     (o .torn (t .before) (t .after) (t .neighbours) (t .one-round))
 
--- n other records from count c on, none of them kept
-lose : ℕ → ℕ → List Fate → List Fate
-lose c zero xs = xs
-lose c (suc n) xs = removed (made c 62) ∷ lose (c + 1) n xs
-
-lose-sent : (n c k : ℕ) (xs : List Fate) → 100 ≤ c → c + n < 140 → Sends (c + n) k xs → Sends c k (lose c n xs)
-unfolding lose Sends
-lose-sent zero c k xs l h s = let e : c ≡ c + 0 = omega arith in subst⁻¹ (λ (d : ℕ). Sends d k xs) e s
-lose-sent (suc n) c k xs l h s =
-    let e : c + suc n ≡ c + 1 + n = omega arith in
-    (sent-filler c k l (omega arith), rw (other-filler c) (lose-sent n (c + 1) k xs (omega arith) (omega arith) (subst (λ (d : ℕ). Sends d k xs) e s)))
-
-next-filler : (k c : ℕ) → next k (made c 62) ≡ k
-next-filler k c = rw (other-filler c)
-
-lose-kept : (n c k l : ℕ) (xs : List Fate) → keptOf c k l (lose c n xs) ≡ keptOf (c + n) k (l + n) xs
-unfolding lose keptOf
-lose-kept zero c k l xs = rw (add-zero c, add-zero l)
-lose-kept (suc n) c k l xs =
-    let d : c + 1 + n ≡ c + suc n = omega arith in
-    let e : l + 1 + n ≡ l + suc n = omega arith in
-    ap (λ (j : ℕ). keptOf (c + 1) j (l + 1) (lose (c + 1) n xs)) (next-filler k c) ∙ lose-kept n (c + 1) k (l + 1) xs ∙ rw (d, e)
-
-lose-refused : (n c : ℕ) (xs : List Fate) (t : Trace) → ExtraRefused xs t → ExtraRefused (lose c n xs) t
-unfolding lose ExtraRefused
-lose-refused zero c xs t h = h
-lose-refused (suc n) c xs t h = lose-refused n (c + 1) xs t h
-
-lose-fed : (n c : ℕ) (xs : List Fate) → fed (lose c n xs) ≡ fed xs
-unfolding lose fed
-lose-fed zero c xs = refl
-lose-fed (suc n) c xs = lose-fed n (c + 1) xs
-
 -- type 5 at count 100, then 36 that are lost, then type 6 at count 137
 abbrev behind : List Fate
 behind = kept (made 137 6) ∷ []
@@ -88,8 +56,8 @@ stream = kept (made 100 5) ∷ lose 101 36 behind
 sent : Sends 100 5 stream
 unfolding stream Sends
 sent = (
-  sent-five 100 5 (omega arith) (omega arith) refl,
-  rw (real-five 100) (lose-sent 36 101 6 behind (omega arith) (omega arith) (sent-six 137 6 (omega arith) (omega arith) refl, tt)),
+  sent-five 100 5 refl,
+  rw (real-five 100) (lose-sent 36 101 6 behind (sent-six 137 6 refl, tt)),
 )
 
 before : Kept
@@ -108,21 +76,31 @@ ran = run fresh lent (fed stream)
 abbrev out : List ClosedAccumulation
 out = accumulations ran
 
+all-kept : unspoiled 100 5 stream ≡ before ∷ after ∷ []
+unfolding stream unspoiled keptOf before after
+all-kept = rw (real-five 100, lose-kept 36 101 6 0 behind)
+
 are-kept : left ≡ before ∷ after ∷ []
-unfolding stream keptOf those before after
-are-kept = rw (real-five 100, lose-kept 36 101 6 0 behind, real-six 137)
+unfolding those before after
+are-kept = ap reals all-kept ∙ rw (real-five 100, real-six 137)
 
 fed-stream : Stream 100 5 stream lent ran
 unfolding stream ExtraRefused traceOf fed
-fed-stream = record { sent = sent; right = lent-sized; refused = rw (lose-fed 36 101 behind) (lose-refused 36 101 behind _ tt) }
+fed-stream = record {
+  sent = sent;
+  near = unfold before after in subst⁻¹ Near all-kept (near-two before after (omega arith));
+  within = unfold before after Every in subst⁻¹ WithinTurns all-kept (omega arith, (omega arith, tt));
+  right = lent-sized;
+  refused = rw (lose-fed 36 101 behind) (lose-refused 36 101 behind _ tt);
+}
 
 type-before : typeOf before ≡ 5
 unfolding before
-type-before = five 100 (omega arith) (omega arith) .typed
+type-before = five 100 .typed
 
 type-after : typeOf after ≡ 6
 unfolding after
-type-after = six 137 (omega arith) (omega arith) .typed
+type-after = six 137 .typed
 
 -- 36 are more than may be missing between types 5 and 6
 far : Joined before after → ⊥
@@ -161,7 +139,9 @@ neighbours = subst⁻¹ (Neighbours before after) are-kept (inl (refl, refl))
 
 lost-36 : unaccepted (unspoiled 100 5 stream) (at before) (at after) ≡ 36
 unfolding before after
-lost-36 = real-lost (unspoiled 100 5 stream) 100 5 0 (chain stream 100 5 0 sent) before after neighbours
+lost-36 =
+    let l = led stream 100 5 sent in
+    real-lost (unspoiled 100 5 stream) (l .count) (l .serial) 0 (l .chained) before after neighbours
 
 pub tight : Tight
 tight = record {

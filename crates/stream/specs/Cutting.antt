@@ -31,8 +31,8 @@ unfoldable pub hasCount : List Kept → ℕ → Bool
 hasCount [] n = false
 hasCount (x ∷ ks) n = eqb n (at x) || hasCount ks n
 
--- "the counts strictly between c and d that were not accepted" (01, "Joining accumulations"): every kept record is accepted, and
--- nothing else is. Between neighbouring real-time records they are the lost ones (`real-lost` in proofs/Lost.antt)
+-- "the counts strictly between c and d that were not accepted" (01, "Joining accumulations"): in demand 3 every kept record is
+-- accepted, and nothing else is. Between neighbouring real-time records they are the lost ones (`real-lost` in proofs/Lost.antt)
 abbrev pub unaccepted : List Kept → ℕ → ℕ → ℕ
 unaccepted ks c d = total (λ i. cond (hasCount ks (c + 1 + i)) 0 1) (d - (c + 1))
 

@@ -1,12 +1,16 @@
--- Demand 3 as a law: for every start, length and pattern of loss, and whatever meets the promises of step and finish.
+-- Demand 3 as a law: for every start, every length and pattern of loss that 02 allows (request 1), and whatever meets the promises of
+-- step and finish.
 -- Assumes nothing.
+use mathlib.Core.Path.{_≡_}
+use mathlib.Core.Bool.{true}
 use mathlib.Core.List.{List}
 use Prim.Native.Nat.{ℕ}
+use Rattle.tables.specs.Every.{Every}
 use Rattle.state.specs.List.{fresh}
 use Rattle.state.specs.declared.State.{State}
-use Rattle.reader.specs.Buffers.{Buffers}
+use Rattle.reader.specs.Buffers.{Buffers, sized}
 use Rattle.stream.specs.Running.{Reader, Trace, traceOf, StepAllowed, EndAllowed, Allowed}
-use Rattle.stream.specs.Sending.{Fate, fed, Stream}
+use Rattle.stream.specs.Sending.{sentCount, Fate, Sends, Unwrapped, fed, ExtraRefused, unspoiled, Near, Stream}
 use Rattle.stream.specs.Demand.{Demand3}
 use Rattle.stream.specs.Once.{OnceEach}
 
@@ -14,6 +18,14 @@ use Rattle.stream.specs.Once.{OnceEach}
 -- finish once. Then ...": proved as `law` in proofs/Law.antt
 abbrev pub DemandLaw : Type 0
 DemandLaw = (xs : List Fate) (b : Buffers) (c k : ℕ) (t : Trace) → Stream c k xs b t → Allowed fresh b (fed xs) t → Demand3 c k xs t × OnceEach c k xs t
+
+-- the same of a stream "without wrapping": no turn is counted, so the full count of each record left is its own, and all are within
+-- turn 4,095. 02's bound on the counts that go unaccepted in a row stays: without it this doesn't hold (`far` in proofs/Far.antt).
+-- Proved as `unwrapped` in proofs/Unwrapped.antt
+abbrev pub UnwrappedLaw : Type 0
+UnwrappedLaw = (xs : List Fate) (b : Buffers) (c k : ℕ) (t : Trace) → Sends c k xs → Unwrapped c xs → Near (unspoiled c k xs) → sized b ≡ true
+    → ExtraRefused xs t → Allowed fresh b (fed xs) t
+    → Demand3 c k xs t × OnceEach c k xs t × Every (λ f. sentCount (f .bytes) ≡ f .count) (unspoiled c k xs)
 
 -- a reader that keeps the promises of `reader::step` and `reader::finish`, and one that meets demand 3: who keeps them meets it
 -- (`meets`), and the reader of the definitions keeps them (`defined-keeps`)

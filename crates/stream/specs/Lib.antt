@@ -7,4 +7,6 @@ pub mod Demand
 pub mod Once
 pub mod Law
 pub mod Tight
+pub mod Far
+pub mod Around
 pub mod Readers

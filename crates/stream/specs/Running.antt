@@ -4,7 +4,7 @@ use mathlib.Core.Bool.{cond}
 use mathlib.Core.List.{List, [], _∷_, _++_}
 use Prim.Native.Nat.{ℕ}
 use lib.IntN.{ℤ}
-use Rattle.state.specs.Deciding.{decidedOf}
+use Rattle.state.specs.Deciding.{decidedOf, answerNumber}
 use Rattle.state.specs.Ending.{endedOf}
 use Rattle.state.specs.declared.State.{State}
 use Rattle.accumulation.specs.declared.AccumulationReport.{AccumulationReport}
@@ -35,7 +35,7 @@ pub data Trace : Type 0 where
   step : Call → Trace → Trace
   finish : End → Trace
 
--- each record in its turn, "each [buffer] handed on as the last call left it, and finish once"
+-- each record by itself, "each [buffer] handed on as the last call left it, and finish once"
 unfoldable pub traceOf : Reader → State → Buffers → List (List ℕ) → Trace
 traceOf R s b [] = finish (R .finishes s b)
 traceOf R s b (r ∷ rs) = step (R .steps s b r) (traceOf R (R .steps s b r .result .state) (R .steps s b r .left) rs)
@@ -90,3 +90,8 @@ majors (finish e) = majorOut (e .result .closed .major) (e .left .finishedSample
 unfoldable pub states : Trace → List State
 states (step c t) = c .result .state ∷ states t
 states (finish e) = e .result .state ∷ []
+
+-- the number of each step's answer
+unfoldable pub answers : Trace → List ℕ
+answers (step c t) = answerNumber (c .result .answer) ∷ answers t
+answers (finish e) = []

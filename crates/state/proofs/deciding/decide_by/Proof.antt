@@ -1,6 +1,6 @@
 -- `state::deciding::decide_by` meets its contract.
 -- Assumes nothing.
-use Rattle.clock.proofs.Laws.{arrives, arrives-not}
+use Rattle.clock.proofs.Laws.{arrives, arrives-not, arrives-past}
 use Rattle.state.proofs.Facts.{ready}
 use mathlib.Core.Path.{sym, ap, _∙_}
 use Prim.Native.Nat.{ℕ}
@@ -20,7 +20,7 @@ accept-requires c κs =
     let k = c .before .before .before in
     let h = k .before in
     let t = arrives (h .args .state .clock) (h .args .f) _ (sym (k .arrival-of .ensures) ∙ c .before .arrival .given .1) in
-    ready (h .args .state) (h .args .f) _ (h .pre .0) (t .0) (t .1) (h .pre .1)
+    ready (h .args .state) (h .args .f) _ (h .pre .0) (t .0) (t .2) (h .pre .1)
 
 enum-told : tie.Need-enum-told
 enum-told c = search needs
@@ -28,13 +28,19 @@ enum-told c = search needs
 refused-requires : tie.Need-refused-requires
 refused-requires c κs = search needs
 
+enum-told-2 : tie.Need-enum-told-2
+enum-told-2 c = search needs
+
+refused-requires-2 : tie.Need-refused-requires-2
+refused-requires-2 c κs = search needs
+
 returns : tie.Need-returns
 unfolding decidedBy
 returns c =
     let k = c .before .before .before .before in
     let a = k .before .args in
     let t = arrives (a .state .clock) (a .f) _ (sym (k .arrival-of .ensures) ∙ c .before .before .arrival .given .1) in
-    rw (t .0) (c .accept .ensures ∙ ap (λ (d : ℕ). acceptance (a .state) (a .f) d (a .range)) (t .1))
+    rw (t .0, t .1) (c .accept .ensures ∙ ap (λ (d : ℕ). acceptance (a .state) (a .f) d (a .range)) (t .2))
 
 returns-2 : tie.Need-returns-2
 unfolding decidedBy
@@ -42,6 +48,14 @@ returns-2 c =
     let k = c .before .before .before in
     let a = k .before .args in
     rw (arrives-not (a .state .clock) (a .f) (sym (k .arrival-of .ensures) ∙ c .before .enum-told .given .1)) (c .refused .ensures)
+
+returns-3 : tie.Need-returns-3
+unfolding decidedBy
+returns-3 c =
+    let k = c .before .before .before in
+    let a = k .before .args in
+    let t = arrives-past (a .state .clock) (a .f) (sym (k .arrival-of .ensures) ∙ c .before .enum-told2 .given .1) in
+    rw (t .0, t .1) (c .refused2 .ensures)
 
 pub decide-by-spec : {M : Type 1} → statement M
 decide-by-spec =
@@ -52,5 +66,8 @@ decide-by-spec =
     accept-requires
     enum-told
     refused-requires
+    enum-told-2
+    refused-requires-2
     returns
-    returns-2)
+    returns-2
+    returns-3)

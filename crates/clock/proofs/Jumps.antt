@@ -1,0 +1,11 @@
+-- The jumps, by computation.
+-- Assumes nothing.
+use mathlib.Core.Path.{refl}
+use Rattle.tables.specs.Every.{Every}
+use Rattle.clock.specs.Clock.{later, turnAt, turnFits, countOf, arrivalAt}
+use Rattle.clock.specs.Jumps.{Jumps, table}
+
+pub all-jumps : Every Jumps table
+unfolding Every Jumps table arrivalAt later turnFits turnAt countOf
+all-jumps =
+    (refl, (refl, (refl, (refl, (refl, (refl, (refl, (refl, (refl, (refl, (refl, (refl, (refl, (refl, (refl, (refl, (refl, tt)))))))))))))))))
