@@ -1,31 +1,25 @@
 -- The open cells are copied to the finished ones just when an accumulation is reported as closed; what isn't closed is all 0.
 -- Assumes nothing.
 use mathlib.Core.Path.{_≡_, refl}
-use mathlib.Core.Bool.{Bool, true, false, cond, true≢false, false≢true}
+use mathlib.Core.Bool.{Bool, true, false, cond}
 use Prim.Native.Nat.{ℕ}
 use Rattle.buffers.specs.declared.work.Work.{Work}
+use Rattle.buffers.proofs.Closing.{Closes, closes, closes-none}
 use Rattle.accumulation.specs.Accumulation.{isOpen, unreported, reported, joins, extends, renews, passes, stepAccumulation, clearsFor, laysFor}
 use Rattle.accumulation.specs.declared.Accumulation.{Accumulation}
 use Rattle.accumulation.specs.declared.AccumulationReport.{AccumulationReport}
 use Rattle.accumulation.specs.declared.AccumulationStep.{AccumulationStep}
 
--- what a report and its work have to do with each other: copied when closed, and then cleared
-pub record FramesClose (w : Work) (r : AccumulationReport) : Type 0 where
-  pub copied : w .copies ≡ r .closed
-  pub cleared : r .closed ≡ true → w .clears ≡ true
-  pub nothing : r .closed ≡ false → r ≡ unreported
+-- copied when closed, and then cleared
+abbrev pub FramesClose : Work → AccumulationReport → Type 0
+FramesClose w r = Closes (λ x. x .closed) unreported w r
 
 pub frames-report : (a : Accumulation) (b c : Bool) → (isOpen a ≡ true → b ≡ true)
     → FramesClose (record { copies = isOpen a; clears = b; lays = c }) (reported a)
-frames-report a b c h = go (isOpen a) h
-  where
-    go : (t : Bool) → (t ≡ true → b ≡ true)
-        → FramesClose (record { copies = t; clears = b; lays = c }) (cond t (record { closed = true; first = a .first; held = a .held }) unreported)
-    go true h = record { copied = refl; cleared = h; nothing = λ e. absurd (true≢false e) }
-    go false h = record { copied = refl; cleared = λ e. absurd (false≢true e); nothing = λ e. refl }
+frames-report a b c h = closes (λ x. x .closed) unreported refl b c (record { closed = true; first = a .first; held = a .held }) refl (isOpen a) h
 
 pub no-frames : (b c : Bool) → FramesClose (record { copies = false; clears = b; lays = c }) unreported
-no-frames b c = record { copied = refl; cleared = λ e. absurd (false≢true e); nothing = λ e. refl }
+no-frames b c = closes-none (λ x. x .closed) unreported refl b c
 
 module _ (a : Accumulation) (science : Bool) (u d : ℕ) where
   abbrev stepBy : Bool → Bool → AccumulationStep

@@ -1,32 +1,25 @@
 -- The open samples are copied to the finished ones just when a major frame is reported as closed; what isn't closed is all 0.
 -- Assumes nothing.
 use mathlib.Core.Path.{_≡_, refl}
-use mathlib.Core.Bool.{Bool, true, false, not, cond, true≢false, false≢true}
-use Prim.Native.Nat.{ℕ, _<_}
-use native.Mathlib.Omega.{arith}
+use mathlib.Core.Bool.{Bool, true, false, not, cond}
+use Prim.Native.Nat.{ℕ}
 use Rattle.buffers.specs.declared.work.Work.{Work}
+use Rattle.buffers.proofs.Closing.{Closes, closes, closes-none}
 use Rattle.major.specs.Major.{slotOf, majorOpen, majorUnreported, majorReported, continues, stays, turns, stepMajor}
 use Rattle.major.specs.declared.Major.{Major}
 use Rattle.major.specs.declared.MajorReport.{MajorReport}
 use Rattle.major.specs.declared.MajorStep.{MajorStep}
 
--- what a report and its work have to do with each other: copied when closed, and then cleared
-pub record MajorCloses (w : Work) (r : MajorReport) : Type 0 where
-  pub copied : w .copies ≡ r .closed
-  pub cleared : r .closed ≡ true → w .clears ≡ true
-  pub nothing : r .closed ≡ false → r ≡ majorUnreported
+-- copied when closed, and then cleared
+abbrev pub MajorCloses : Work → MajorReport → Type 0
+MajorCloses w r = Closes (λ x. x .closed) majorUnreported w r
 
 pub major-report : (m : Major) (b c : Bool) → (majorOpen m ≡ true → b ≡ true)
     → MajorCloses (record { copies = majorOpen m; clears = b; lays = c }) (majorReported m)
-major-report m b c h = go (majorOpen m) h
-  where
-    go : (t : Bool) → (t ≡ true → b ≡ true)
-        → MajorCloses (record { copies = t; clears = b; lays = c }) (cond t (record { closed = true; frame = m }) majorUnreported)
-    go true h = record { copied = refl; cleared = h; nothing = λ e. absurd (true≢false e) }
-    go false h = record { copied = refl; cleared = λ e. absurd (false≢true e); nothing = λ e. refl }
+major-report m b c h = closes (λ x. x .closed) majorUnreported refl b c (record { closed = true; frame = m }) refl (majorOpen m) h
 
 pub no-major : (b c : Bool) → MajorCloses (record { copies = false; clears = b; lays = c }) majorUnreported
-no-major b c = record { copied = refl; cleared = λ e. absurd (false≢true e); nothing = λ e. refl }
+no-major b c = closes-none (λ x. x .closed) majorUnreported refl b c
 
 module _ (m : Major) (d : ℕ) (mag : Bool) (k w : ℕ) where
   abbrev stepBy : Bool → MajorStep

@@ -8,9 +8,9 @@ use native.Mathlib.Omega.{arith}
 use lib.ListN.{length}
 use Rattle.tables.specs.Every.{Every}
 use Rattle.state.specs.List.{fresh}
-use Rattle.stream.specs.Lists.{Pairwise}
+use Rattle.gathering.specs.Lists.{Pairwise, those}
 use Rattle.stream.specs.Running.{run, traceOf, ClosedAccumulation, accumulations}
-use Rattle.stream.specs.Sending.{Fate, kept, removed, Sends, fed, ExtraRefused, Kept, keptOf, those, reals}
+use Rattle.stream.specs.Sending.{Fate, kept, removed, Sends, fed, ExtraRefused, Kept, keptOf, reals}
 use Rattle.stream.specs.Sending.{unspoiled, realUnspoiled, Near, WithinTurns, Stream}
 use Rattle.stream.specs.Cutting.{Joined, Parted}
 use Rattle.stream.specs.Filling.{Filled, firstCount}

@@ -34,6 +34,7 @@ use Rattle.major.specs.declared.MajorStep.{MajorStep}
 use Rattle.state.proofs.Numbers.{accepted-is, refused-is}
 use Rattle.reader.specs.Buffers.{Buffers, copiedBy, cellsAfter, samplesAfter, worked}
 use Rattle.reader.specs.Steps.{input}
+use Rattle.gathering.specs.Gathering.{Gatherer, gather}
 use Rattle.stream.specs.Running.{Call, Trace, step, ClosedAccumulation, ClosedMajor, called, accumulationOut, majorOut, accumulations, majors}
 use Rattle.stream.specs.Sending.{realTime, Kept, hasMag}
 use Rattle.stream.specs.Cutting.{at, typeOf}
@@ -64,22 +65,34 @@ majorClosing m s = cond (majorOpen m) (record { frame = m; samples = s } ∷ [])
 unfoldable pub majorWith : Kept → Major → Major
 majorWith x m = into m (at x) (hasMag x) (range (magBytes (packet x))) (recordOf (x .bytes) .subcom)
 
--- accepted records as the accumulation alone meets them, and as the major frame does
-unfoldable pub accumulate : Accumulation → List ℕ → List Kept → List ClosedAccumulation
-accumulate a c [] = closing a c
-accumulate a c (x ∷ xs) =
-    cond (realTime (x .bytes))
-    (cond (joins a (typeOf x) (at x))
-    (accumulate (joined a (typeOf x) (at x)) (cellsWith x c) xs)
-    (closing a c ++ accumulate (started (typeOf x) (at x)) (cellsWith x noCells) xs))
-    (accumulate (passed a) c xs)
+-- accepted records as the accumulation alone meets them, with its cells, and as the major frame does, with its samples
+abbrev pub accumulating : Gatherer Kept Kept (Accumulation × List ℕ) ClosedAccumulation
+accumulating = record {
+  takes = λ x. realTime (x .bytes);
+  item = λ x. x;
+  goesOn = λ g x. joins (g .0) (typeOf x) (at x);
+  puts = λ x g. (joined (g .0) (typeOf x) (at x), cellsWith x (g .1));
+  opens = λ x. (started (typeOf x) (at x), cellsWith x noCells);
+  passes = λ x g. (passed (g .0), g .1);
+  closing = λ g. closing (g .0) (g .1);
+}
 
-unfoldable pub collect : Major → List ℤ → List Kept → List ClosedMajor
-collect m s [] = majorClosing m s
-collect m s (x ∷ xs) =
-    cond (continues m (at x))
-    (collect (majorWith x m) (samplesWith x s) xs)
-    (majorClosing m s ++ collect (majorWith x noMajor) (samplesWith x noSamples) xs)
+abbrev pub collecting : Gatherer Kept Kept (Major × List ℤ) ClosedMajor
+collecting = record {
+  takes = λ x. true;
+  item = λ x. x;
+  goesOn = λ g x. continues (g .0) (at x);
+  puts = λ x g. (majorWith x (g .0), samplesWith x (g .1));
+  opens = λ x. (majorWith x noMajor, samplesWith x noSamples);
+  passes = λ x g. g;
+  closing = λ g. majorClosing (g .0) (g .1);
+}
+
+abbrev pub accumulate : Accumulation → List ℕ → List Kept → List ClosedAccumulation
+accumulate a c xs = gather accumulating (a, c) xs
+
+abbrev pub collect : Major → List ℤ → List Kept → List ClosedMajor
+collect m s xs = gather collecting (m, s) xs
 
 -- a call by the decision that it comes to
 abbrev callOf : Buffers → List ℕ → Decided → Call
@@ -151,7 +164,7 @@ module _ (s : State) (b : Buffers) (x : Kept) (e : numberOf (input s b (x .bytes
         → accumulations (step c t) ≡ accumulate (s .accumulation) (b .openCells) (x ∷ xs)
 
     pub cells-call : length (b .openCells) ≡ cellsSize → FromCells (called s b (x .bytes))
-    unfolding stepAccumulation cellsWith acceptance accumulations accumulate
+    unfolding stepAccumulation cellsWith acceptance accumulations gather
     cells-call n = subst⁻¹ FromCells is-taken (go (carriesScience kind) (joins (s .accumulation) (typeOf x) (at x)) (science-real kind))
       where
         stepOf : Bool → Bool → AccumulationStep
@@ -175,7 +188,7 @@ module _ (s : State) (b : Buffers) (x : Kept) (e : numberOf (input s b (x .bytes
         → majors (step c t) ≡ collect (s .major) (b .openSamples) (x ∷ xs)
 
     pub samples-call : length (b .openSamples) ≡ frameSamples → FromSamples (called s b (x .bytes))
-    unfolding stepMajor samplesWith acceptance majors collect majorWith
+    unfolding stepMajor samplesWith acceptance majors gather majorWith
     samples-call n = subst⁻¹ FromSamples is-taken (λ h. go (continues (s .major) (at x)) h)
       where
         stepOf : Bool → MajorStep

@@ -12,9 +12,11 @@ use Rattle.bits.specs.Twelve.{Bytes}
 use Rattle.record.specs.Layout.{frameCode}
 use Rattle.carriage.specs.Carriage.{types}
 use Rattle.stream.specs.Filling.{packet}
-use Rattle.stream.specs.Sending.{realTime, next, Fate, kept, removed, extra, Sends, Kept, keptOf, those, reals}
+use Rattle.gathering.specs.Lists.{those}
+use Rattle.gathering.specs.Laying.{Rising}
+use Rattle.gathering.proofs.Laying.{rising-down}
+use Rattle.stream.specs.Sending.{realTime, next, Fate, kept, removed, extra, Sends, Kept, keptOf, reals}
 use Rattle.stream.specs.Cutting.{at, typeOf}
-use Rattle.stream.proofs.Marking.{Rising, rising-down}
 
 -- x is the next kept: count c, real-time number k and l lost ones come before what was sent from here on
 pub record Next (c k l : ℕ) (x : Kept) : Type 0 where

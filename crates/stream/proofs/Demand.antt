@@ -10,18 +10,18 @@ use Rattle.carriage.specs.Carriage.{scienceSize}
 use Rattle.state.specs.List.{fresh}
 use Rattle.state.proofs.Keeping.{fresh-sound}
 use Rattle.reader.specs.Buffers.{Buffers}
-use Rattle.stream.specs.Lists.{Pairwise, flat}
+use Rattle.gathering.specs.Lists.{Pairwise, flat}
+use Rattle.gathering.proofs.Grouping.{each-out}
+use Rattle.gathering.proofs.Members.{in-every}
 use Rattle.stream.specs.Running.{Trace, run, Allowed}
 use Rattle.stream.specs.Sending.{Fate, fed, Stream, Kept, magged, unspoiled}
 use Rattle.stream.specs.Cutting.{Joined, Parted, Beside, Behind}
 use Rattle.stream.specs.Filling.{Filled, MajorFilled}
 use Rattle.stream.specs.Demand.{Demand3}
-use Rattle.stream.proofs.Members.{in-every}
 use Rattle.stream.proofs.Runs.{only-run, run-sound}
 use Rattle.stream.proofs.Parts.{start}
 use Rattle.stream.proofs.Leading.{led, follows, left-parts}
-use Rattle.stream.proofs.Chains.{all-typed, Typed}
-use Rattle.stream.proofs.Grouping.{each-out}
+use Rattle.stream.proofs.Chains.{all-typed, rising-counts, Typed}
 use Rattle.stream.proofs.Rounds.{outOf, rounds}
 use Rattle.stream.proofs.Cells.{filled}
 use Rattle.stream.proofs.Frames.{majorOf, frames}
@@ -35,7 +35,7 @@ module _ (xs : List Fate) (b : Buffers) (c k : ℕ) where
       let p = left-parts xs c k b (start b (w .right)) (w .sent) (follows xs c k (w .sent) (w .near) (w .within)) (w .refused) in
       let l = led xs c k (w .sent) in
       let r = rounds ks (b .openCells) (l .count) (l .serial) 0 (l .chained) in
-      let m = frames ks (b .openSamples) (l .count) (l .serial) 0 (l .chained) in
+      let m = frames ks (b .openSamples) (l .count) (rising-counts ks (l .count) (l .serial) 0 (l .chained)) in
       let typed = all-typed ks (l .count) (l .serial) 0 (l .chained) in
       let all-filled = each-out Joined Parted outOf Typed Filled filled (r .groups) (r .cut) (subst⁻¹ (Every Typed) (r .whole) typed) in
       let any = in-every (λ x. Unit {0}) (flat (m .groups)) (λ f i. tt) in

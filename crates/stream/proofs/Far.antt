@@ -16,7 +16,7 @@ use Rattle.state.specs.List.{fresh}
 use Rattle.state.specs.Deciding.{stateHolds, clockHolds, numberOf}
 use Rattle.state.proofs.Numbers.{number-is}
 use Rattle.reader.specs.Steps.{input}
-use Rattle.stream.specs.Lists.{Some}
+use Rattle.gathering.specs.Lists.{Some}
 use Rattle.stream.specs.Running.{Call, called, run, traceOf, answers}
 use Rattle.stream.specs.Sending.{sentCount, Fate, kept, Sends, sentMany, Unwrapped, fed, Kept, keptOf, unspoiled}
 use Rattle.stream.specs.Cutting.{at, unaccepted}

@@ -13,13 +13,14 @@ use Rattle.tables.specs.Every.{Every}
 use Rattle.record.specs.Layout.{scienceBytes}
 use Rattle.carriage.specs.Carriage.{cells, carrier, byteOf}
 use Rattle.cells.specs.Raw.{holdsCell}
-use Rattle.stream.specs.Lists.{Some, sum, total}
+use Rattle.gathering.specs.Lists.{Some, sum, total}
+use Rattle.gathering.proofs.Totals.{total-same}
 use Rattle.stream.specs.Running.{ClosedAccumulation}
 use Rattle.stream.specs.Sending.{Kept}
 use Rattle.stream.specs.Cutting.{typeOf, round}
 use Rattle.stream.specs.Filling.{packet}
 use Rattle.stream.specs.Once.{Unmixed, hasByte, isFilled}
-use Rattle.stream.proofs.Counting.{total-same, cellsIn}
+use Rattle.stream.proofs.Counting.{cellsIn}
 
 -- the cells filled with the bytes of records fs
 abbrev pub filledIn : List Kept → ClosedAccumulation → ℕ

@@ -10,12 +10,12 @@ use Rattle.clock.specs.Clock.{circle, ownOf, accepted, unset}
 use Rattle.clock.proofs.Laws.{follows-none, follows-last}
 use Rattle.state.specs.List.{fresh}
 use Rattle.reader.specs.Buffers.{Buffers}
-use Rattle.stream.specs.Lists.{Neighbours}
+use Rattle.gathering.specs.Lists.{Neighbours}
+use Rattle.gathering.specs.Laying.{Rising}
 use Rattle.stream.specs.Running.{run, traceOf}
 use Rattle.stream.specs.Sending.{sentCount, next, Fate, kept, removed, extra, SentAt, Sends, fed, ExtraRefused, Kept, keptOf}
 use Rattle.stream.specs.Sending.{unspoiled, Near, WithinTurns}
 use Rattle.stream.specs.Cutting.{at}
-use Rattle.stream.proofs.Marking.{Rising}
 use Rattle.stream.proofs.Chains.{Chain, chain, rising-counts}
 use Rattle.stream.proofs.Parts.{Ready, Follow, Parts, parts, ends, lost-one, extra-one}
 

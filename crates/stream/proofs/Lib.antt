@@ -4,10 +4,7 @@ pub mod Parts
 pub mod Leading
 pub mod Spoiling
 pub mod Chains
-pub mod Grouping
-pub mod Marking
 pub mod Those
-pub mod Members
 pub mod Rounds
 pub mod Cells
 pub mod Frames

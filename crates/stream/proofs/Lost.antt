@@ -9,14 +9,14 @@ use native.Mathlib.Numerals.{add-one}
 use native.Mathlib.Omega.{arith}
 use lib.Dec.{eqb}
 use borrow.Author.Tests.{eq-eqb, ne-eqb, eqb-true}
-use Rattle.stream.specs.Lists.{Some, Neighbours, total}
+use Rattle.gathering.specs.Lists.{Some, Neighbours, total}
+use Rattle.gathering.specs.Laying.{Rising}
+use Rattle.gathering.proofs.Those.{rising-those}
+use Rattle.gathering.proofs.Members.{In, above, those-in, neighbours-in, neighbours-rise}
+use Rattle.gathering.proofs.Totals.{total-same, total-none, total-add, total-more, total-suc, only}
 use Rattle.stream.specs.Sending.{next, Kept, isReal, reals}
 use Rattle.stream.specs.Cutting.{at, hasCount, unaccepted, lostBetween}
-use Rattle.stream.proofs.Marking.{Rising}
-use Rattle.stream.proofs.Those.{rising-those}
 use Rattle.stream.proofs.Chains.{Chain, rising-counts}
-use Rattle.stream.proofs.Members.{In, above, those-in, neighbours-in, neighbours-rise}
-use Rattle.stream.proofs.Counting.{total-same, total-none, total-add, total-more, total-suc, only}
 
 -- whether one of the kept records has the count i, as a number, and how many have one below n
 abbrev keptAt : List Kept → ℕ → ℕ

@@ -8,7 +8,9 @@ use lib.ListN.{length}
 use Rattle.carriage.specs.Carriage.{scienceSize}
 use Rattle.state.specs.List.{fresh}
 use Rattle.reader.specs.Buffers.{Buffers}
-use Rattle.stream.specs.Lists.{Some}
+use Rattle.gathering.specs.Lists.{Some}
+use Rattle.gathering.proofs.Those.{rising-those}
+use Rattle.gathering.proofs.Owning.{all-tied}
 use Rattle.stream.specs.Running.{Trace, Allowed, accumulations, majors}
 use Rattle.stream.specs.Sending.{Fate, fed, Stream, isReal, reals, unspoiled, Kept}
 use Rattle.stream.specs.Cutting.{at, Joined, Parted, tears}
@@ -19,10 +21,9 @@ use Rattle.stream.proofs.Filled.{filled-held}
 use Rattle.stream.proofs.Lost.{real-lost}
 use Rattle.stream.proofs.Chains.{rising-counts, rising-serials, all-typed}
 use Rattle.stream.proofs.Leading.{led}
-use Rattle.stream.proofs.Those.{rising-those}
 use Rattle.stream.proofs.Demand.{demand-3}
-use Rattle.stream.proofs.OwnCells.{all-tied, own-once, own-stands, all-unmixed, torn-where}
-use Rattle.stream.proofs.OwnSlots.{major-once, major-slotted, majors-unmixed}
+use Rattle.stream.proofs.OwnCells.{cells-owned, torn-where}
+use Rattle.stream.proofs.OwnSlots.{slots-owned}
 
 pub once-each : (xs : List Fate) (b : Buffers) (c k : ℕ) (t : Trace) → Stream c k xs b t → Allowed fresh b (fed xs) t → OnceEach c k xs t
 once-each xs b c k t w a =
@@ -37,18 +38,20 @@ once-each xs b c k t w a =
     let serials = rising-serials ks n m 0 (l .chained) in
     let known = all-typed ks n m 0 (l .chained) in
     let parts = all-tied Joined Parted Filled (d .parts) (accumulations t) (d .parts-cut) (d .parts-out) in
+    let cells = cells-owned rs n m real-counts serials known (d .parts) (accumulations t) (d .parts-whole) parts in
+    let slots = slots-owned ks n counts (d .major-parts) (majors t) (d .major-whole) (d .major-out) in
     record {
-      one = own-once rs n m real-counts serials known (d .parts) (accumulations t) (d .parts-whole) parts;
-      there = own-stands rs n m real-counts serials known (d .parts) (accumulations t) (d .parts-whole) parts;
-      unmixed = all-unmixed rs n m real-counts serials known (d .parts) (accumulations t) (d .parts-whole) parts;
+      one = cells .one;
+      there = cells .there;
+      unmixed = cells .each;
       filled =
-          filled-held rs (accumulations t) (all-unmixed rs n m real-counts serials known (d .parts) (accumulations t) (d .parts-whole) parts)
+          filled-held rs (accumulations t) (cells .each)
           ∙ filled-total (d .parts) (accumulations t) (d .parts-out)
           ∙ ap (λ (g : List Kept). scienceSize * length g) (d .parts-whole);
       torn = λ p f q r.
           subst⁻¹ (λ (g : ℕ). Some (λ a. Own rs p a × Own rs f a) (accumulations t) ⊎ (tears ≤ g)) (real-lost ks n m 0 (l .chained) p f q)
           (torn-where rs n m real-counts serials known (d .parts) (accumulations t) (d .parts-whole) parts (d .parts-cut) p f q r);
-      one-major = major-once ks n counts (d .major-parts) (majors t) (d .major-whole) (d .major-out);
-      there-major = major-slotted ks n counts (d .major-parts) (majors t) (d .major-whole) (d .major-out);
-      unmixed-major = majors-unmixed ks n counts (d .major-parts) (majors t) (d .major-whole) (d .major-out);
+      one-major = slots .one;
+      there-major = slots .there;
+      unmixed-major = slots .each;
     }

@@ -1,7 +1,7 @@
 -- Each kept real-time record has exactly one accumulation of its own, and what an accumulation holds is all of such records.
 -- Assumes nothing.
-use mathlib.Core.Path.{_≡_, refl, sym, ap, subst, subst⁻¹, _∙_}
-use mathlib.Core.Bool.{true, false, true≢false}
+use mathlib.Core.Path.{_≡_, refl, sym, ap, subst, _∙_}
+use mathlib.Core.Bool.{true, false}
 use mathlib.Core.List.{List, [], _∷_}
 use mathlib.Core.Logic.{_⊎_, inl, inr, ⊎-elim}
 use Prim.Native.Nat.{ℕ, _<_, _≤_}
@@ -13,31 +13,17 @@ use Rattle.record.specs.Layout.{frameCode, scienceBytes}
 use Rattle.carriage.specs.Carriage.{types, place, carrier, byteOf}
 use Rattle.carriage.proofs.EachCell.{once}
 use Rattle.cells.specs.Laying.{topPair, pairAt}
-use Rattle.stream.specs.Lists.{Some, Pairwise, ExactlyOne, Neighbours, flat, Linked, Cut}
+use Rattle.gathering.specs.Lists.{Some, Pairwise, Neighbours, flat, Linked, Cut}
+use Rattle.gathering.specs.Laying.{Rising}
+use Rattle.gathering.proofs.Grouping.{all-share}
+use Rattle.gathering.proofs.Members.{In, Among, every-in, some-in, in-some, unique, neighbours-in, neighbours-rise}
+use Rattle.gathering.proofs.Owning.{Tied, set-by, set-from, unset-free, Owned, owned, both-own}
 use Rattle.stream.specs.Running.{ClosedAccumulation}
 use Rattle.stream.specs.Sending.{Kept}
 use Rattle.stream.specs.Cutting.{at, typeOf, round, lostBetween, tears, Joined, Parted}
 use Rattle.stream.specs.Filling.{packet, Stands, Missing, Filled}
 use Rattle.stream.specs.Once.{Own, Unmixed}
 use Rattle.stream.proofs.Chains.{serial, Typed}
-use Rattle.stream.proofs.Grouping.{all-share}
-use Rattle.stream.proofs.Marking.{Rising, Free}
-use Rattle.stream.proofs.Members.{In, Among, among-all, every-in, in-every, some-in, in-some, one-has}
-use Rattle.stream.proofs.Members.{each, some-out, once-in, unique, beside, neighbours-in, neighbours-rise}
-
--- a part of a cutting, with what links it
-unfoldable pub Tied : (Kept → Kept → Type 0) → List Kept → Type 0
-Tied R [] = ⊥
-Tied R (x ∷ xs) = Linked R x xs
-
-pub all-tied : {O : Type 0} (R S : Kept → Kept → Type 0) (P : List Kept → O → Type 0) (gs : List (List Kept)) (os : List O)
-    → Cut R S gs → Pairwise P gs os → Pairwise (λ g o. P g o × Tied R g) gs os
-unfolding Cut Pairwise Tied
-all-tied R S P [] [] c h = tt
-all-tied R S P [] (o ∷ os) c h = absurd h
-all-tied R S P (g ∷ gs) [] c h = absurd h
-all-tied R S P ([] ∷ gs) (o ∷ os) c h = absurd c
-all-tied R S P ((x ∷ xs) ∷ gs) (o ∷ os) c h = ((h .0, c .0), all-tied R S P gs os (c .2) (h .1))
 
 -- an accumulation is all of one round
 one-round : (fs : List Kept) (p f : Kept) → Linked Joined p fs → In f (p ∷ fs) → round f ≡ round p
@@ -73,11 +59,9 @@ module _ (rs : List Kept) (c k : ℕ) (counts : Rising at c rs) (serials : Risin
       in-some (λ x. (at x ≡ a .report .first) × (round x ≡ round f)) (In f (h ∷ t)) rs (o .1) (λ x j q.
       let e : x ≡ h = unique at rs c x h counts j (w h (inl refl)) (q .0 ∙ p .0 .first) in
       let r : round h ≡ round f = subst (λ (y : Kept). round y ≡ round f) e (q .1) in
-      one-has typeOf (typeOf f) (h ∷ t) (In f (h ∷ t)) some (λ y j e.
+      let b = every-in Typed rs f known i .typed in
+      set-by typeOf (h ∷ t) (bitSet (a .report .held)) (typeOf f) (λ n. p .0 .others (typeOf f) (omega arith) n .unheld) (o .0) (In f (h ∷ t)) (λ y j e.
       subst (λ (z : Kept). In z (h ∷ t)) (same-record f y i (w y j) (one-round t h y (p .1) j ∙ r) e) j))
-    where
-      some : Free typeOf (typeOf f) (h ∷ t) → ⊥
-      some n = let b = every-in Typed rs f known i .typed in true≢false (sym (o .0) ∙ p .0 .others (typeOf f) (omega arith) n .unheld)
 
   -- what is held comes from one round
   unmixed-part : (g : List Kept) (a : ClosedAccumulation) → Part g a → Among rs g → Unmixed rs a
@@ -105,45 +89,24 @@ module _ (rs : List Kept) (c k : ℕ) (counts : Rising at c rs) (serials : Risin
           → (Q : Kept → Type 0) → ((f : Kept) → typeOf f ≡ u → Stands f a → Q f)
           → Some (λ f. (typeOf f ≡ u) × (round f ≡ round h) × Q f) rs
       source u l e Q k =
-          let S : Kept → Type 0 = λ f. (typeOf f ≡ u) × (round f ≡ round h) × Q f in
-          one-has typeOf u (h ∷ t) (Some S rs) (λ n. true≢false (sym e ∙ p .0 .others u l n .unheld)) (λ y j z.
-          some-in S rs y (w y j) (z, one-round t h y (p .1) j, k y z (stands y j)))
+          set-from typeOf (h ∷ t) (bitSet (a .report .held)) u rs w (λ n. p .0 .others u l n .unheld) e
+          (λ f. (typeOf f ≡ u) × (round f ≡ round h) × Q f) (λ y j z. (z, one-round t h y (p .1) j, k y z (stands y j)))
 
       absent : (u : ℕ) → u < types → bitSet (a .report .held) u ≡ false → Missing u a
-      absent u l e =
-          p .0 .others u l (in-every (λ y. typeOf y ≡ u → ⊥) (h ∷ t) (λ y j q.
-          true≢false (sym (stands y j .held) ∙ ap (λ (n : ℕ). bitSet (a .report .held) n) q ∙ e)))
+      absent u l e = p .0 .others u l (unset-free typeOf (h ∷ t) (bitSet (a .report .held)) u (λ y j. stands y j .held) e)
 
   -- all accumulations handed out
   module _ (gs : List (List Kept)) (os : List ClosedAccumulation) (whole : flat gs ≡ rs) (parts : Pairwise Part gs os) where
-    all-in : Among rs (flat gs)
-    all-in = among-all rs (flat gs) whole
-
-    pub own-once : Every (λ f. ExactlyOne (Own rs f) os) rs
-    own-once = in-every _ rs (λ f i.
-        once-in Part rs (Own rs f) f (part-own f) (own-part f i) serial gs os k parts all-in
-        (subst⁻¹ (Rising serial k) whole serials) (subst⁻¹ (In f) whole i))
-
-    pub own-stands : Every (λ f. Every (λ a. Own rs f a → Stands f a) os) rs
-    own-stands = in-every _ rs (λ f i.
-        each Part rs (λ a. Own rs f a → Stands f a)
-        (λ g a p w o. every-in (λ f. Stands f a) g f (p .0 .own) (own-part f i g a p w o)) gs os parts all-in)
-
-    pub all-unmixed : Every (Unmixed rs) os
-    all-unmixed = each Part rs (Unmixed rs) unmixed-part gs os parts all-in
+    pub cells-owned : Owned (Own rs) Stands (Unmixed rs) rs os
+    cells-owned = owned Part (Own rs) rs part-own gs os whole parts own-part serial k serials Stands (λ g a p. p .0 .own) (Unmixed rs) unmixed-part
 
     pub torn-where : Cut Joined Parted gs → (p f : Kept) → Neighbours p f rs → round p ≡ round f
         → Some (λ a. Own rs p a × Own rs f a) os ⊎ (tears ≤ lostBetween p f)
     torn-where cut p f n r =
-        let Both : List Kept → Type 0 = λ g. In p g × In f g in
-        ⊎-elim (λ (s : Some Both gs). inl (some-out Part rs (λ a. Own rs p a × Own rs f a) Both owned gs os parts all-in s))
+        ⊎-elim (λ (s : Some (λ a. Own rs p a × Own rs f a) os). inl s)
         (λ (s : Parted p f). inr (omega (arith, s r, rises)))
-        (beside Joined Parted p f gs cut (subst⁻¹ (Neighbours p f) whole n))
+        (both-own Part (Own rs) rs part-own gs os whole parts Joined Parted cut p f n)
       where
-        -- where both stand in one part, both have its accumulation
-        owned : (g : List Kept) (a : ClosedAccumulation) → Part g a → Among rs g → In p g × In f g → Own rs p a × Own rs f a
-        owned g a q w i = (part-own p g a q w (i .0), part-own f g a q w (i .1))
-
         -- of one round, the later one has the higher type
         rises : typeOf p < typeOf f
         rises =

@@ -1,20 +1,19 @@
 -- Each kept record has exactly one major frame of its own, and what a major frame holds is all of such records.
 -- Assumes nothing.
-use mathlib.Core.Path.{_≡_, sym, ap, subst, subst⁻¹, _∙_}
-use mathlib.Core.Bool.{true, false, true≢false}
+use mathlib.Core.Path.{_≡_, sym, subst, _∙_}
 use mathlib.Core.List.{List}
 use Prim.Native.Nat.{ℕ}
 use native.Mathlib.Omega.{arith}
 use Rattle.tables.specs.Marks.{bitSet}
-use Rattle.tables.specs.Every.{Every}
-use Rattle.stream.specs.Lists.{Some, Pairwise, ExactlyOne, flat}
+use Rattle.gathering.specs.Lists.{Pairwise, flat}
+use Rattle.gathering.specs.Laying.{Rising}
+use Rattle.gathering.proofs.Members.{In, Among, every-in, unique, those-in, among-those}
+use Rattle.gathering.proofs.Owning.{set-by, set-from, unset-free, Owned, owned}
 use Rattle.stream.specs.Running.{ClosedMajor}
 use Rattle.stream.specs.Sending.{Kept, hasMag, magged}
 use Rattle.stream.specs.Cutting.{at, major}
 use Rattle.stream.specs.Filling.{slot, Sampled, Slotted, MajorFilled}
 use Rattle.stream.specs.Once.{OwnMajor, UnmixedMajor}
-use Rattle.stream.proofs.Marking.{Rising}
-use Rattle.stream.proofs.Members.{In, Among, among-all, every-in, in-every, some-in, one-has, each, once-in, unique, those-in, in-those}
 
 -- the major frames of the kept records rs
 module _ (rs : List Kept) (c : ℕ) (counts : Rising at c rs) where
@@ -23,7 +22,7 @@ module _ (rs : List Kept) (c : ℕ) (counts : Rising at c rs) where
 
   own-slot : (f : Kept) → In f rs → (g : List Kept) (m : ClosedMajor) → MajorFilled g m → Among rs g → OwnMajor f m → In f g
   own-slot f i g m p w o =
-      one-has slot (slot f) g (In f g) (λ n. true≢false (sym (o .1) ∙ p .no-slot (slot f) (omega arith) n .unheld)) (λ y j e.
+      set-by slot g (bitSet (m .frame .slots)) (slot f) (λ n. p .no-slot (slot f) (omega arith) n .unheld) (o .1) (In f g) (λ y j e.
       let n : major y ≡ major f = sym (every-in (λ f. Slotted f m) g y (p .own) j .number) ∙ o .0 in
       subst (λ (z : Kept). In z g) (unique at rs c y f counts (w y j) i (omega arith)) j)
 
@@ -31,38 +30,21 @@ module _ (rs : List Kept) (c : ℕ) (counts : Rising at c rs) where
   unmixed-slots : (g : List Kept) (m : ClosedMajor) → MajorFilled g m → Among rs g → UnmixedMajor rs m
   unmixed-slots g m p w = record {
     held = λ i l e.
-        let H : Kept → Type 0 = λ f. (slot f ≡ i) × Slotted f m in
-        one-has slot i g (Some H rs) (λ n. true≢false (sym e ∙ p .no-slot i l n .unheld)) (λ y j z. some-in H rs y (w y j) (z, stands y j));
-    unheld = λ i l e.
-        p .no-slot i l (in-every (λ y. slot y ≡ i → ⊥) g (λ y j z.
-        true≢false (sym (stands y j .held) ∙ ap (λ (n : ℕ). bitSet (m .frame .slots) n) z ∙ e)));
+        set-from slot g (bitSet (m .frame .slots)) i rs w (λ n. p .no-slot i l n .unheld) e (λ f. (slot f ≡ i) × Slotted f m) (λ y j z. (z, stands y j));
+    unheld = λ i l e. p .no-slot i l (unset-free slot g (bitSet (m .frame .slots)) i (λ y j. stands y j .held) e);
     marked = λ i l e.
-        let H : Kept → Type 0 = λ f. (slot f ≡ i) × (major f ≡ m .frame .number) × Sampled f m in
-        one-has slot i (magged g) (Some H (magged rs)) (λ n. true≢false (sym e ∙ p .no-mag i l n .unmarked)) (λ y j z.
-        let r = those-in hasMag g y j in
-        let s = stands y (r .0) in
-        some-in H (magged rs) y (in-those hasMag rs y (w y (r .0)) (r .1)) (z, sym (s .number), s .mag (r .1)));
-    unmarked = λ i l e. p .no-mag i l (in-every (λ y. slot y ≡ i → ⊥) (magged g) (λ y j z.
-        let r = those-in hasMag g y j in
-        true≢false (sym (stands y (r .0) .mag (r .1) .marked) ∙ ap (λ (n : ℕ). bitSet (m .frame .«mag_slots») n) z ∙ e)));
+        set-from slot (magged g) (bitSet (m .frame .«mag_slots»)) i (magged rs) (among-those hasMag rs g w) (λ n. p .no-mag i l n .unmarked) e
+        (λ f. (slot f ≡ i) × (major f ≡ m .frame .number) × Sampled f m) (λ y j z. (z, sym (stands y (those-in hasMag g y j .0) .number), sampled y j));
+    unmarked = λ i l e. p .no-mag i l (unset-free slot (magged g) (bitSet (m .frame .«mag_slots»)) i (λ y j. sampled y j .marked) e);
   }
     where
       stands : (y : Kept) → In y g → Slotted y m
       stands y j = every-in (λ f. Slotted f m) g y (p .own) j
 
-  module _ (gs : List (List Kept)) (os : List ClosedMajor) (whole : flat gs ≡ rs) (parts : Pairwise MajorFilled gs os) where
-    all-in : Among rs (flat gs)
-    all-in = among-all rs (flat gs) whole
+      sampled : (y : Kept) → In y (magged g) → Sampled y m
+      sampled y j = let r = those-in hasMag g y j in stands y (r .0) .mag (r .1)
 
-    pub major-once : Every (λ f. ExactlyOne (OwnMajor f) os) rs
-    major-once = in-every _ rs (λ f i.
-        once-in MajorFilled rs (OwnMajor f) f (slot-own f) (own-slot f i) at gs os c parts all-in
-        (subst⁻¹ (Rising at c) whole counts) (subst⁻¹ (In f) whole i))
-
-    pub major-slotted : Every (λ f. Every (λ m. OwnMajor f m → Slotted f m) os) rs
-    major-slotted = in-every _ rs (λ f i.
-        each MajorFilled rs (λ m. OwnMajor f m → Slotted f m)
-        (λ g m p w o. every-in (λ f. Slotted f m) g f (p .own) (own-slot f i g m p w o)) gs os parts all-in)
-
-    pub majors-unmixed : Every (UnmixedMajor rs) os
-    majors-unmixed = each MajorFilled rs (UnmixedMajor rs) unmixed-slots gs os parts all-in
+  pub slots-owned : (gs : List (List Kept)) (os : List ClosedMajor) → flat gs ≡ rs → Pairwise MajorFilled gs os
+      → Owned OwnMajor Slotted (UnmixedMajor rs) rs os
+  slots-owned gs os whole parts =
+      owned MajorFilled OwnMajor rs slot-own gs os whole parts own-slot at c counts Slotted (λ g m p. p .own) (UnmixedMajor rs) unmixed-slots

@@ -7,9 +7,9 @@ use Prim.Native.Nat.{ℕ, suc, _+_, _-_, _<_}
 use native.Mathlib.Omega.{arith}
 use lib.ListN.{length}
 use Rattle.clock.specs.Clock.{farthest}
-use Rattle.stream.specs.Lists.{Neighbours, flat, Linked, final, Across, Cut}
+use Rattle.gathering.specs.Lists.{Neighbours, flat, Linked, final, Across, Cut}
 use Rattle.stream.specs.Sending.{Kept, Near}
-use Rattle.stream.proofs.Members.{of-both}
+use Rattle.gathering.proofs.Members.{of-both}
 
 heads : (x y p f : Kept) (xs : List Kept) → x ∷ y ∷ xs ≡ p ∷ f ∷ [] → (x ≡ p) × (y ≡ f)
 heads x y p f xs e = (cc, cc)

@@ -35,6 +35,7 @@ use Rattle.state.proofs.Keeping.{step-sound, fresh-sound}
 use Rattle.reader.specs.Buffers.{Buffers, sizedBy, sized, copiedBy, clearedBy, cellsAfter, samplesAfter}
 use Rattle.reader.specs.Steps.{input}
 use Rattle.reader.proofs.Lengths.{Sizes, sizes, length-cleared}
+use Rattle.gathering.specs.Gathering.{gather}
 use Rattle.stream.specs.Running.{Call, Trace, step, called, run, traceOf, accumulations, majors}
 use Rattle.stream.specs.Cutting.{at}
 use Rattle.stream.specs.Sending.{sentCount, next, Fate, kept, removed, extra, Sends, fed, ExtraRefused, KeptAccepted, Kept, keptOf}
@@ -140,7 +141,7 @@ behind y rs = run (y .result .state) (y .left) rs
 
 -- nothing more is fed: finish
 pub ends : (s : State) (b : Buffers) → Ready s b → Parts [] [] s b
-unfolding traceOf fed KeptAccepted accumulations majors accumulate collect endedOf
+unfolding traceOf fed KeptAccepted accumulations majors gather endedOf
 ends s b h =
     let t : (sized b && listed s) ≡ true = rw (is-sized b (h .sized)) (h .sound .passes) in
     record {

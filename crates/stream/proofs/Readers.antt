@@ -32,9 +32,10 @@ use Rattle.state.specs.declared.State.{State}
 use Rattle.state.proofs.Told.{all-pass, passed-size}
 use Rattle.reader.specs.Buffers.{Buffers}
 use Rattle.reader.specs.Steps.{input}
+use Rattle.gathering.specs.Lists.{Pairwise, sum, those}
+use Rattle.gathering.proofs.Totals.{total-none}
 use Rattle.stream.specs.Running.{Reader, Call, Trace, traceOf, called, ClosedAccumulation, accumulationOut, accumulations}
-use Rattle.stream.specs.Lists.{Pairwise, sum}
-use Rattle.stream.specs.Sending.{Fate, kept, Sends, fed, ExtraRefused, KeptAccepted, Kept, keptOf, those, reals}
+use Rattle.stream.specs.Sending.{Fate, kept, Sends, fed, ExtraRefused, KeptAccepted, Kept, keptOf, reals}
 use Rattle.stream.specs.Sending.{unspoiled, realUnspoiled, Near, WithinTurns, Stream}
 use Rattle.stream.specs.Cutting.{at, typeOf, Joined, Parted}
 use Rattle.stream.specs.Filling.{Filled, packet}
@@ -42,7 +43,6 @@ use Rattle.stream.specs.Demand.{cellsListed}
 use Rattle.stream.specs.Once.{cellsFilled, isFilled, hasByte}
 use Rattle.stream.specs.Law.{Keeps, Meets}
 use Rattle.stream.specs.Readers.{RefusesAll, FixedAnswer, StoresNothing, Nods, NeverSaysJoins, NeverJoins, MadeUp, FixedFrames}
-use Rattle.stream.proofs.Counting.{total-none}
 use Rattle.stream.proofs.Filled.{filledIn}
 use Rattle.stream.proofs.Runs.{answered, only-call}
 use Rattle.stream.proofs.Calls.{opening, joining}

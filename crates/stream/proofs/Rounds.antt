@@ -1,7 +1,7 @@
 -- The accumulations of the kept records: what joins is of one round; what is of one round and doesn't join has 36 or more
 -- counts lost between (01, "Joining accumulations").
 -- Assumes nothing.
-use mathlib.Core.Path.{_≡_, refl, sym, _∙_}
+use mathlib.Core.Path.{_≡_, refl, sym, subst, _∙_}
 use mathlib.Core.Bool.{Bool, true, false, true≢false}
 use mathlib.Core.List.{List, [], _∷_, _++_}
 use Prim.Native.Nat.{ℕ, _+_, _-_, _%_, _^_, _<_, _≤_}
@@ -13,27 +13,23 @@ use borrow.Author.Tests.{ltb-true, leb-true, lt-ltb, le-leb, ne-eqb, leb-false}
 use Rattle.tables.specs.Marks.{marked}
 use Rattle.tables.proofs.Conds.{two}
 use Rattle.carriage.specs.Carriage.{types}
-use Rattle.accumulation.specs.Accumulation.{isOpen, noAccumulation, gap, fewest, most, joins, joined, passed}
+use Rattle.accumulation.specs.Accumulation.{isOpen, noAccumulation, gap, fewest, most, joins, joined, started, passed}
 use Rattle.accumulation.specs.declared.Accumulation.{Accumulation}
 use Rattle.stream.specs.Running.{ClosedAccumulation}
-use Rattle.stream.specs.Sending.{realTime, next, Kept, those, isReal, reals}
+use Rattle.gathering.specs.Gathering.{Gathers, Grouped}
+use Rattle.gathering.specs.Laying.{putAll}
+use Rattle.gathering.proofs.Grouping.{gathered, map-same}
+use Rattle.gathering.proofs.Laying.{put-more}
+use Rattle.gathering.proofs.Marking.{marksFrom, marks-some}
+use Rattle.stream.specs.Sending.{realTime, next, Kept, reals}
 use Rattle.stream.specs.Cutting.{at, typeOf, lostBetween, Joined, Parted}
 use Rattle.stream.specs.Filling.{firstCount}
-use Rattle.stream.proofs.Calls.{cellsWith, noCells, closing, accumulate}
+use Rattle.stream.proofs.Calls.{cellsWith, noCells, closing, accumulating, accumulate}
 use Rattle.stream.proofs.Chains.{Next, Chain}
-use Rattle.stream.proofs.Grouping.{Told, told-end, told-joined, told-opened, Grouped, grouped-none, grouped}
-use Rattle.stream.proofs.Marking.{marksFrom, marks-more, marks-some}
-use Rattle.stream.proofs.Those.{those-more, those-same}
 
 -- the cells of frames, one after another
-unfoldable pub cellsFrom : List ℕ → List Kept → List ℕ
-cellsFrom c [] = c
-cellsFrom c (f ∷ fs) = cellsFrom (cellsWith f c) fs
-
-cells-more : (g : List Kept) (c : List ℕ) (f : Kept) → cellsFrom c (g ++ (f ∷ [])) ≡ cellsWith f (cellsFrom c g)
-unfolding cellsFrom
-cells-more [] c f = refl
-cells-more (x ∷ g) c f = cells-more g (cellsWith x c) f
+abbrev pub cellsFrom : List ℕ → List Kept → List ℕ
+cellsFrom c fs = putAll cellsWith c fs
 
 -- an accumulation with these frames, as it is handed out
 unfoldable pub outOf : List Kept → ClosedAccumulation
@@ -45,7 +41,7 @@ openWith g p o = record { first = firstCount g; held = marksFrom typeOf 0 g; «l
 
 module _ (h : Kept) (t : List Kept) (p : Kept) (o : ℕ) where
   is-open : isOpen (openWith (h ∷ t) p o) ≡ true
-  unfolding marksFrom marked
+  unfolding putAll marked
   is-open =
       let m = 0 + 2 ^ typeOf h in
       let some : 0 < marksFrom typeOf m t = marks-some typeOf t m (omega (arith, pow-pos (typeOf h))) in
@@ -106,66 +102,77 @@ ties-other : (p f : Kept) (o c k l : ℕ) → Ties p o c k l → Next c k l f �
     → Ties p (o + 1) (at f + 1) (next (f .serial) (f .bytes)) (f .lost)
 ties-other p f o c k l t n e = rw e (record { before = omega arith; lost = omega arith; account = omega arith; between = omega arith; typed = t .typed })
 
-module _ (x : Kept) (xs : List Kept) (real : realTime (x .bytes) ≡ true) where
-  accumulate-join : (a : Accumulation) (c : List ℕ) → joins a (typeOf x) (at x) ≡ true
-      → accumulate a c (x ∷ xs) ≡ accumulate (joined a (typeOf x) (at x)) (cellsWith x c) xs
-  unfolding accumulate
-  accumulate-join a c j = rw (real, j)
+-- nothing is open, and the frames h ∷ t are, p the last of them, with the records xs to come
+record Shut (g : Accumulation × List ℕ) (xs : List Kept) : Type 0 where
+  count : ℕ
+  serial : ℕ
+  lost : ℕ
+  is : g .0 ≡ noAccumulation
+  chained : Chain count serial lost xs
 
-  accumulate-open : (a : Accumulation) (c : List ℕ) → joins a (typeOf x) (at x) ≡ false
-      → accumulate a c (x ∷ xs) ≡ closing a c ++ accumulate (openWith (x ∷ []) x 0) (cellsFrom noCells (x ∷ [])) xs
-  unfolding accumulate marksFrom cellsFrom marked
-  accumulate-open a c j = rw (real, j, zero-add)
+record Open (h : Kept) (t : List Kept) (p : Kept) (g : Accumulation × List ℕ) (xs : List Kept) : Type 0 where
+  others : ℕ
+  count : ℕ
+  serial : ℕ
+  lost : ℕ
+  is : g ≡ (openWith (h ∷ t) p others, cellsFrom noCells (h ∷ t))
+  tied : Ties p others count serial lost
+  chained : Chain count serial lost xs
 
-module _ (x : Kept) (xs : List Kept) (other : realTime (x .bytes) ≡ false) where
-  accumulate-pass : (a : Accumulation) (c : List ℕ) → accumulate a c (x ∷ xs) ≡ accumulate (passed a) c xs
-  unfolding accumulate
-  accumulate-pass a c = rw other
+module _ (x : Kept) (xs : List Kept) where
+  -- a real-time record opens one
+  anew : (c k l : ℕ) → realTime (x .bytes) ≡ true → Chain c k l (x ∷ xs) → Open x [] x (started (typeOf x) (at x), cellsWith x noCells) xs
+  unfolding Chain putAll marked
+  anew c k l e w = record { others = 0; count = _; serial = _; lost = _; is = rw zero-add refl; tied = ties-real x c k l (w .0) e; chained = w .1 }
 
--- with the frames h ∷ t open, p the last of them
-abbrev From : Kept → List Kept → Kept → ℕ → List Kept → Type 0
-From h t p o xs = Told Joined Parted outOf h t p (reals xs) (accumulate (openWith (h ∷ t) p o) (cellsFrom noCells (h ∷ t)) xs)
+  shut-passes : (g : Accumulation × List ℕ) → Shut g (x ∷ xs) → Shut (passed (g .0), g .1) xs
+  unfolding Chain
+  shut-passes g s = record { count = _; serial = _; lost = _; is = rw (s .is) refl; chained = s .chained .1 }
 
-told : (xs : List Kept) (h : Kept) (t : List Kept) (p : Kept) (o c k l : ℕ) → Ties p o c k l → Chain c k l xs → From h t p o xs
-unfolding accumulate those Chain
-told [] h t p o c k l e w = rw (closes h t p o) (told-end Joined Parted outOf h t p)
-told (x ∷ xs) h t p o c k l e w =
-    go (realTime (x .bytes)) (joins (openWith (h ∷ t) p o) (typeOf x) (at x)) refl refl
-    (λ h t p o e. told xs h t p o (at x + 1) (next (x .serial) (x .bytes)) (x .lost) e (w .1))
-  where
-    n : Next c k l x
-    n = w .0
+  module _ (h : Kept) (t : List Kept) (p : Kept) (g : Accumulation × List ℕ) (o : Open h t p g (x ∷ xs)) where
+    passes-by : realTime (x .bytes) ≡ false → Open h t p (passed (g .0), g .1) xs
+    unfolding Chain
+    passes-by e =
+        let w = ties-other p x (o .others) (o .count) (o .serial) (o .lost) (o .tied) (o .chained .0) e in
+        let i = is-open h t p (o .others) in
+        record { others = o .others + 1; count = _; serial = _; lost = _; is = rw (o .is, i) refl; tied = w; chained = o .chained .1 }
 
-    go : (a b : Bool) → realTime (x .bytes) ≡ a → joins (openWith (h ∷ t) p o) (typeOf x) (at x) ≡ b
-        → ((h : Kept) (t : List Kept) (p : Kept) (o : ℕ) → Ties p o (at x + 1) (next (x .serial) (x .bytes)) (x .lost) → From h t p o xs)
-        → From h t p o (x ∷ xs)
-    go false b r j ih =
-        let a = openWith (h ∷ t) p o in
-        let d = cellsFrom noCells (h ∷ t) in
-        rw (those-same isReal x xs r, accumulate-pass x xs r a d, is-open h t p o) (ih h t p (o + 1) (ties-other p x o c k l e n r))
-    go true true r j ih =
-        let a = openWith (h ∷ t) p o in
-        let d = cellsFrom noCells (h ∷ t) in
-        rw (those-more isReal x xs r, accumulate-join x xs r a d j, ← marks-more typeOf (h ∷ t) 0 x, ← cells-more (h ∷ t) noCells x)
-        (told-joined Joined Parted outOf h t p x (reals xs) _ (joined-so (h ∷ t) p x o c k l e n r j) (ih h (t ++ (x ∷ [])) x 0 (ties-real x c k l n r)))
-    go true false r j ih =
-        let a = openWith (h ∷ t) p o in
-        let d = cellsFrom noCells (h ∷ t) in
-        let torn = torn-so (h ∷ t) p x o c k l e n r (is-open h t p o) j in
-        rw (those-more isReal x xs r, accumulate-open x xs r a d j, closes h t p o)
-        (told-opened Joined Parted outOf h t p x (reals xs) _ torn (ih x [] x 0 (ties-real x c k l n r)))
+    goes-in : realTime (x .bytes) ≡ true → Open h (t ++ (x ∷ [])) x (joined (g .0) (typeOf x) (at x), cellsWith x (g .1)) xs
+    unfolding Chain
+    goes-in e =
+        let w = ties-real x (o .count) (o .serial) (o .lost) (o .chained .0) e in
+        let m = put-more (λ y n. marked n (typeOf y)) (h ∷ t) 0 x in
+        let c = put-more cellsWith (h ∷ t) noCells x in
+        record { others = 0; count = _; serial = _; lost = _; is = rw (o .is, m, c) refl; tied = w; chained = o .chained .1 }
+
+    -- what the joining rule says of the two
+    module _ (e : realTime (x .bytes) ≡ true) (b : Bool) (j : joins (g .0) (typeOf x) (at x) ≡ b) where
+      rule : joins (openWith (h ∷ t) p (o .others)) (typeOf x) (at x) ≡ b
+      rule = subst (λ (y : Accumulation × List ℕ). joins (y .0) (typeOf x) (at x) ≡ b) (o .is) j
+
+      in-one : b ≡ true → Joined p x
+      unfolding Chain
+      in-one q = joined-so (h ∷ t) p x (o .others) (o .count) (o .serial) (o .lost) (o .tied) (o .chained .0) e (rule ∙ q)
+
+      in-two : b ≡ false → Parted p x
+      unfolding Chain
+      in-two q =
+          torn-so (h ∷ t) p x (o .others) (o .count) (o .serial) (o .lost) (o .tied) (o .chained .0) e (is-open h t p (o .others)) (rule ∙ q)
+
+accumulates : Gathers accumulating Joined Parted outOf Shut Open
+accumulates = record {
+  shut-closes = λ g xs s. unfold closing in rw (s .is) refl;
+  shut-passes = λ g x xs e s. shut-passes x xs g s;
+  shut-opens = λ g x xs e s. (unfold joins in rw (s .is) refl, anew x xs (s .count) (s .serial) (s .lost) e (s .chained));
+  closes = λ h t p g xs o. rw (o .is) (closes h t p (o .others));
+  passes = λ h t p g x xs e o. passes-by x xs h t p g o e;
+  joins = λ h t p g x xs e j o. (in-one x xs h t p g o e true j refl, goes-in x xs h t p g o e);
+  parts = λ h t p g x xs e j o. (in-two x xs h t p g o e false j refl, anew x xs (o .count) (o .serial) (o .lost) e (o .chained));
+}
 
 -- from nothing open: the accumulations handed out are some cutting of the kept real-time records
-abbrev pub Rounds : List ℕ → List Kept → Type 0
-Rounds b xs = Grouped Joined Parted outOf (reals xs) (accumulate noAccumulation b xs)
-
-pub rounds : (xs : List Kept) (b : List ℕ) (c k l : ℕ) → Chain c k l xs → Rounds b xs
-unfolding accumulate closing those Chain joins
-rounds [] b c k l w = grouped-none Joined Parted outOf
-rounds (x ∷ xs) b c k l w = go (realTime (x .bytes)) refl (rounds xs b (at x + 1) (next (x .serial) (x .bytes)) (x .lost) (w .1))
-  where
-    go : (a : Bool) → realTime (x .bytes) ≡ a → Rounds b xs → Rounds b (x ∷ xs)
-    go false e r = rw (those-same isReal x xs e, accumulate-pass x xs e noAccumulation b) r
-    go true e r =
-        rw (those-more isReal x xs e, accumulate-open x xs e noAccumulation b refl)
-        (grouped Joined Parted outOf x (reals xs) _ (told xs x [] x 0 (at x + 1) (next (x .serial) (x .bytes)) (x .lost) (ties-real x c k l (w .0) e) (w .1)))
+pub rounds : (xs : List Kept) (b : List ℕ) (c k l : ℕ) → Chain c k l xs → Grouped Joined Parted outOf (reals xs) (accumulate noAccumulation b xs)
+rounds xs b c k l w =
+    let s : Shut (noAccumulation, b) xs = record { count = c; serial = k; lost = l; is = refl; chained = w } in
+    let Out : List Kept → Type 0 = λ ys. Grouped Joined Parted outOf ys (accumulate noAccumulation b xs) in
+    subst Out (map-same (reals xs)) (gathered accumulating Joined Parted outOf Shut Open accumulates xs (noAccumulation, b) s)

@@ -1,29 +1,20 @@
 -- Numbers summed over what is handed out are those of the records in it.
 -- Assumes nothing.
-use mathlib.Core.Path.{_≡_, refl, sym, ap, _∙_}
-use mathlib.Core.List.{List, [], _∷_, _++_}
+use mathlib.Core.Path.{_≡_, refl, ap, _∙_}
+use mathlib.Core.List.{List, [], _++_}
 use Prim.Native.Nat.{ℕ, _+_, _*_}
 use native.Mathlib.Omega.{arith}
 use lib.ListN.{length, length-append}
 use Rattle.mag.specs.Samples.{samplesSize}
 use Rattle.carriage.specs.Carriage.{scienceSize}
 use Rattle.listing.specs.Lines.{cellsHeld, slotsHeld, samplesHeld}
-use Rattle.stream.specs.Lists.{Pairwise, flat, sum}
+use Rattle.gathering.specs.Lists.{Pairwise, flat, sum, those}
+use Rattle.gathering.proofs.Those.{those-append}
+use Rattle.gathering.proofs.Totals.{sum-is}
 use Rattle.stream.specs.Running.{ClosedAccumulation, ClosedMajor}
-use Rattle.stream.specs.Sending.{Kept, those, hasMag, magged}
+use Rattle.stream.specs.Sending.{Kept, hasMag, magged}
 use Rattle.stream.specs.Filling.{Filled, MajorFilled}
 use Rattle.stream.proofs.Counting.{cellsIn, cells-held}
-use Rattle.stream.proofs.Those.{those-append}
-
--- w counts the records of a list
-module _ {O : Type 0} (P : List Kept → O → Type 0) (f : O → ℕ) (w : List Kept → ℕ)
-    (none : w [] ≡ 0) (more : (g h : List Kept) → w (g ++ h) ≡ w g + w h) (is : (g : List Kept) (o : O) → P g o → f o ≡ w g) where
-  sum-is : (gs : List (List Kept)) (os : List O) → Pairwise P gs os → sum f os ≡ w (flat gs)
-  unfolding Pairwise flat sum
-  sum-is [] [] h = sym none
-  sum-is [] (o ∷ os) h = absurd h
-  sum-is (g ∷ gs) [] h = absurd h
-  sum-is (g ∷ gs) (o ∷ os) h = omega (arith, is g o (h .0), sum-is gs os (h .1), more g (flat gs))
 
 mags-none : length (magged []) ≡ 0
 unfolding those

@@ -10,9 +10,9 @@ use Rattle.tables.specs.Marks.{bitSet}
 use Rattle.tables.specs.Every.{Every}
 use Rattle.carriage.specs.Carriage.{types}
 use Rattle.state.specs.List.{fresh}
-use Rattle.stream.specs.Lists.{Some, Pairwise, Neighbours}
+use Rattle.gathering.specs.Lists.{Some, Pairwise, Neighbours, those}
 use Rattle.stream.specs.Running.{Trace, run, traceOf, ClosedAccumulation, accumulations}
-use Rattle.stream.specs.Sending.{Fate, kept, Sends, fed, ExtraRefused, Kept, keptOf, those, reals}
+use Rattle.stream.specs.Sending.{Fate, kept, Sends, fed, ExtraRefused, Kept, keptOf, reals}
 use Rattle.stream.specs.Sending.{unspoiled, realUnspoiled, Near, WithinTurns, Stream}
 use Rattle.stream.specs.Cutting.{typeOf, tears, Joined, Parted, at, unaccepted}
 use Rattle.stream.specs.Filling.{Filled}

@@ -9,7 +9,7 @@ use Rattle.clock.specs.Clock.{circle, counts, ownOf}
 use Rattle.stream.specs.Sending.{sentCount, next, Fate, kept, removed, extra, sentMany, Unwrapped, Kept, keptOf, unspoiled}
 use Rattle.stream.specs.Cutting.{at}
 use Rattle.stream.specs.Law.{UnwrappedLaw}
-use Rattle.stream.proofs.Members.{In, every-in, in-every}
+use Rattle.gathering.proofs.Members.{In, every-in, in-every}
 use Rattle.stream.proofs.Leading.{own-counts}
 use Rattle.stream.proofs.Law.{law}
 

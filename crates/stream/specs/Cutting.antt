@@ -9,7 +9,7 @@ use Rattle.record.specs.Contents.{recordOf}
 use Rattle.carriage.specs.Carriage.{types}
 use Rattle.accumulation.specs.Accumulation.{most}
 use Rattle.major.specs.Major.{majorNumber}
-use Rattle.stream.specs.Lists.{Cut, total}
+use Rattle.gathering.specs.Lists.{Cut, total}
 use Rattle.stream.specs.Sending.{Kept}
 
 abbrev pub at : Kept → ℕ

@@ -9,7 +9,7 @@ use Rattle.mag.specs.Samples.{samplesSize}
 use Rattle.carriage.specs.Carriage.{scienceSize}
 use Rattle.listing.specs.Lines.{cellsHeld, slotsHeld, samplesHeld}
 use Rattle.state.specs.Keeping.{Sound}
-use Rattle.stream.specs.Lists.{Pairwise, flat, sum}
+use Rattle.gathering.specs.Lists.{Pairwise, flat, sum}
 use Rattle.stream.specs.Running.{Trace, accumulations, majors, states}
 use Rattle.stream.specs.Sending.{Fate, KeptAccepted, Kept, unspoiled, realUnspoiled, magUnspoiled}
 use Rattle.stream.specs.Cutting.{AccumulationCut, MajorCut}

@@ -1,4 +1,3 @@
-pub mod Lists
 pub mod Running
 pub mod Sending
 pub mod Cutting

@@ -15,7 +15,7 @@ use Rattle.carriage.specs.Carriage.{types, scienceSize, cells, carrier, byteOf}
 use Rattle.cells.specs.Laying.{topPair, pairAt}
 use Rattle.cells.specs.Raw.{holdsCell}
 use Rattle.major.specs.Major.{slots}
-use Rattle.stream.specs.Lists.{Some, ExactlyOne, Neighbours, sum, total}
+use Rattle.gathering.specs.Lists.{Some, ExactlyOne, Neighbours, sum, total}
 use Rattle.stream.specs.Running.{Trace, ClosedAccumulation, ClosedMajor, accumulations, majors}
 use Rattle.stream.specs.Sending.{Fate, Kept, magged, unspoiled, realUnspoiled}
 use Rattle.stream.specs.Cutting.{at, typeOf, round, unaccepted, tears, major}

@@ -14,7 +14,7 @@ use Rattle.record.specs.Frame.{isRealTime, carriesMag}
 use Rattle.state.specs.Deciding.{answerNumber}
 use Rattle.state.specs.Ending.{endingNumber}
 use Rattle.reader.specs.Buffers.{Buffers, sized}
-use Rattle.stream.specs.Lists.{Neighbours}
+use Rattle.gathering.specs.Lists.{Neighbours, those}
 use Rattle.stream.specs.Running.{Trace, step, finish}
 
 abbrev pub realTime : List ℕ → Bool
@@ -112,12 +112,7 @@ keptOf c k l (kept r ∷ xs) = record { bytes = r; count = c; serial = k; lost =
 keptOf c k l (removed r ∷ xs) = keptOf (c + 1) (next k r) (l + 1) xs
 keptOf c k l (extra x ∷ xs) = keptOf c k l xs
 
--- those of them that pass a test
-unfoldable pub those : (Kept → Bool) → List Kept → List Kept
-those p [] = []
-those p (x ∷ xs) = cond (p x) (x ∷ those p xs) (those p xs)
-
--- the real-time ones, and those with MAG
+-- the real-time ones of them, and those with MAG
 abbrev pub isReal : Kept → Bool
 isReal x = realTime (x .bytes)
 

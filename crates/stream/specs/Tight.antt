@@ -6,7 +6,7 @@ use Prim.Native.Nat.{ℕ, _<_}
 use Rattle.tables.specs.Every.{Every}
 use Rattle.state.specs.List.{fresh}
 use Rattle.reader.specs.Buffers.{Buffers}
-use Rattle.stream.specs.Lists.{Neighbours}
+use Rattle.gathering.specs.Lists.{Neighbours}
 use Rattle.stream.specs.Running.{run, accumulations}
 use Rattle.stream.specs.Sending.{Fate, fed, Stream, Kept, unspoiled, realUnspoiled}
 use Rattle.stream.specs.Cutting.{at, round, unaccepted, tears}

@@ -1,6 +1,7 @@
 -- What is said of lists, over any elements.
 -- Assumes nothing.
 use mathlib.Core.Path.{_≡_}
+use mathlib.Core.Bool.{Bool, cond}
 use mathlib.Core.List.{List, [], _∷_, _++_}
 use mathlib.Core.Logic.{_⊎_}
 use Prim.Native.Nat.{ℕ, zero, suc, _+_}
@@ -28,6 +29,11 @@ unfoldable pub Neighbours : {A : Type 0} → A → A → List A → Type 0
 Neighbours p f [] = ⊥
 Neighbours p f (x ∷ []) = ⊥
 Neighbours p f (x ∷ y ∷ ys) = ((x ≡ p) × (y ≡ f)) ⊎ Neighbours p f (y ∷ ys)
+
+-- those that pass a test
+unfoldable pub those : {A : Type 0} → (A → Bool) → List A → List A
+those p [] = []
+those p (x ∷ xs) = cond (p x) (x ∷ those p xs) (those p xs)
 
 -- the elements of all lists, in order
 unfoldable pub flat : {A : Type 0} → List (List A) → List A

@@ -1,0 +1,9 @@
+pub mod Grouping
+pub mod Laying
+pub mod Those
+pub mod Members
+pub mod Marking
+pub mod Buffers
+pub mod Owning
+pub mod Places
+pub mod Totals

@@ -1,0 +1,4 @@
+pub mod Lists
+pub mod Gathering
+pub mod Laying
+pub mod Places
