@@ -1,4 +1,4 @@
-/* The listing (01, "The listing, whole") as a whole program over the step in C.
+/* The listing (01, "The listing, whole"; 02, request 2) as a whole program over the step in C.
  *   list_c [FILE] */
 #include "input.h"
 #include "step_c.h"
@@ -8,6 +8,8 @@
 static struct lpmag_state state;
 static _Alignas(64) uint8_t open_cells[LPMAG_CELLS], finished_cells[LPMAG_CELLS];
 static _Alignas(64) int16_t open_samples[LPMAG_FRAME], finished_samples[LPMAG_FRAME];
+static _Alignas(64) uint8_t open_snapshot[LPMAG_SNAPSHOT], first_snapshot[LPMAG_SNAPSHOT];
+static _Alignas(64) uint8_t second_snapshot[LPMAG_SNAPSHOT];
 static uint64_t refused;
 
 static void print_line(const char *kind, uint64_t first, int frames, int cells)
@@ -33,11 +35,18 @@ static void print_accumulation(uint64_t first, uint64_t held)
     print_line("accum ", first, frames, LPMAG_SCIENCE * frames);
 }
 
+static void print_snapshot(uint64_t first, uint32_t held)
+{
+    int packets = __builtin_popcount(held);
+    print_line("snap ", first, packets, LPMAG_BURST * packets);
+}
+
 static void list_record(const uint8_t *record, size_t length)
 {
     struct lpmag_report report;
     if (step_c(&state, &report, open_cells, LPMAG_CELLS, finished_cells, LPMAG_CELLS, open_samples,
-               LPMAG_FRAME, finished_samples, LPMAG_FRAME, record, length) != LPMAG_OK) {
+               LPMAG_FRAME, finished_samples, LPMAG_FRAME, open_snapshot, LPMAG_SNAPSHOT, first_snapshot,
+               LPMAG_SNAPSHOT, second_snapshot, LPMAG_SNAPSHOT, record, length) != LPMAG_OK) {
         refused++;
         return;
     }
@@ -45,6 +54,10 @@ static void list_record(const uint8_t *record, size_t length)
         print_major(&report.closed.major);
     if (report.closed.accumulation_closed)
         print_accumulation(report.closed.accumulation_first, report.closed.accumulation_held);
+    if (report.closed.first_snapshot.closed)
+        print_snapshot(report.closed.first_snapshot.first, report.closed.first_snapshot.held);
+    if (report.closed.second_snapshot.closed)
+        print_snapshot(report.closed.second_snapshot.first, report.closed.second_snapshot.held);
 }
 
 /* What is still open is handed out as it is. */
@@ -54,6 +67,8 @@ static void list_end(void)
         print_major(&state.major);
     if (state.accumulation.held != 0)
         print_accumulation(state.accumulation.first, state.accumulation.held);
+    if (state.snapshot.held != 0)
+        print_snapshot(state.snapshot.first, state.snapshot.held);
     print_text("refused ");
     print_number(refused);
     print_text("\n");

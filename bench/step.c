@@ -22,18 +22,38 @@ static uint32_t span;          /* the counts of a round */
 
 /* ---- the stream ------------------------------------------------------- */
 
-/* Real-time types in order, round and round; one record of 50 is an other frame, and
+/* The next packet of a burst that is played back: the 20 of a snapshot, a second of MAG, and the next
+ * snapshot. */
+static uint8_t next_packet(uint8_t packet)
+{
+    return packet == 56 ? 36 : (uint8_t)(packet + 1);
+}
+
+/* A frame that isn't real-time: a memory dump; or a half burst or a full one. */
+static struct content make_other(struct random *random, bool bursts, uint8_t *packet)
+{
+    if (!bursts)
+        return generate_content_of(random, 0, 63);
+    uint8_t code = *packet = next_packet(*packet);
+    if (random_once_in(random, 2))
+        return generate_content_with(random, 0, code, 0);
+    *packet = next_packet(code);
+    return generate_content_with(random, 0, code | TOP_BIT, *packet);
+}
+
+/* Real-time types in order, round and round; one record of so many is another frame, and
  * once in 500 up to 40 are lost. A round ends with type 35, lost if need be, so that
  * the next can follow. */
-static void make_stream(void)
+static void make_stream(bool bursts, uint32_t others_once_in)
 {
     struct random random = {1998};
     uint32_t frames = 0; /* real-time */
     uint32_t lost = 0;
+    uint8_t packet = 35; /* the last one of a burst */
     size_t made = 0;
-    for (; made < RING || frames % TYPES != 0; span++) {
-        bool other = random_once_in(&random, 50);
-        uint32_t type = other ? random_between(&random, 36, 57) : frames % TYPES;
+    for (span = 0; made < RING || frames % TYPES != 0; span++) {
+        bool other = random_once_in(&random, others_once_in);
+        uint8_t type = (uint8_t)(frames % TYPES);
         frames += !other;
         if (lost == 0 && random_once_in(&random, 500))
             lost = random_between(&random, 1, 40);
@@ -41,8 +61,8 @@ static void make_stream(void)
             lost -= lost > 0;
             continue;
         }
-        struct content content = generate_content(&random);
-        content.code = (uint8_t)(random_below(&random, 4) << 6 | type);
+        struct content content =
+            other ? make_other(&random, bursts, &packet) : generate_content_of(&random, 0, type);
         generate_record(&random, &content, records[made]);
         offsets[made++] = span;
     }
@@ -70,12 +90,17 @@ struct lent {
     _Alignas(64) uint8_t finished_cells[LPMAG_CELLS];
     _Alignas(64) int16_t open_samples[LPMAG_FRAME];
     _Alignas(64) int16_t finished_samples[LPMAG_FRAME];
+    _Alignas(64) uint8_t open_snapshot[LPMAG_SNAPSHOT];
+    _Alignas(64) uint8_t first_snapshot[LPMAG_SNAPSHOT];
+    _Alignas(64) uint8_t second_snapshot[LPMAG_SNAPSHOT];
 };
 
 typedef uint8_t step(struct lpmag_state *, struct lpmag_report *, uint8_t *, size_t, uint8_t *, size_t,
-                     int16_t *, size_t, int16_t *, size_t, const uint8_t *, size_t);
+                     int16_t *, size_t, int16_t *, size_t, uint8_t *, size_t, uint8_t *, size_t, uint8_t *,
+                     size_t, const uint8_t *, size_t);
 typedef uint8_t feed(struct lpmag_state *, struct lpmag_fed *, uint8_t *, size_t, uint8_t *, size_t,
-                     int16_t *, size_t, int16_t *, size_t, const uint8_t *, size_t);
+                     int16_t *, size_t, int16_t *, size_t, uint8_t *, size_t, uint8_t *, size_t, uint8_t *,
+                     size_t, const uint8_t *, size_t);
 
 struct functions {
     step *step;
@@ -89,15 +114,17 @@ static const struct functions second = {second_step, second_feed};
 static uint8_t call_step(const struct functions *of, struct lent *lent, const uint8_t *record, size_t length)
 {
     return of->step(&lent->state, &lent->report, lent->open_cells, LPMAG_CELLS, lent->finished_cells,
-                    LPMAG_CELLS, lent->open_samples, LPMAG_FRAME, lent->finished_samples, LPMAG_FRAME, record,
-                    length);
+                    LPMAG_CELLS, lent->open_samples, LPMAG_FRAME, lent->finished_samples, LPMAG_FRAME,
+                    lent->open_snapshot, LPMAG_SNAPSHOT, lent->first_snapshot, LPMAG_SNAPSHOT,
+                    lent->second_snapshot, LPMAG_SNAPSHOT, record, length);
 }
 
 static uint8_t call_feed(const struct functions *of, struct lent *lent, const uint8_t *bytes, size_t length)
 {
     return of->feed(&lent->state, &lent->fed, lent->open_cells, LPMAG_CELLS, lent->finished_cells,
-                    LPMAG_CELLS, lent->open_samples, LPMAG_FRAME, lent->finished_samples, LPMAG_FRAME, bytes,
-                    length);
+                    LPMAG_CELLS, lent->open_samples, LPMAG_FRAME, lent->finished_samples, LPMAG_FRAME,
+                    lent->open_snapshot, LPMAG_SNAPSHOT, lent->first_snapshot, LPMAG_SNAPSHOT,
+                    lent->second_snapshot, LPMAG_SNAPSHOT, bytes, length);
 }
 
 /* ---- that all do the same --------------------------------------------- */
@@ -122,6 +149,9 @@ static void expect_same_lent(const struct lent *one, const struct lent *other)
     expect_same(one->finished_cells, other->finished_cells, sizeof one->finished_cells);
     expect_same(one->open_samples, other->open_samples, sizeof one->open_samples);
     expect_same(one->finished_samples, other->finished_samples, sizeof one->finished_samples);
+    expect_same(one->open_snapshot, other->open_snapshot, sizeof one->open_snapshot);
+    expect_same(one->first_snapshot, other->first_snapshot, sizeof one->first_snapshot);
+    expect_same(one->second_snapshot, other->second_snapshot, sizeof one->second_snapshot);
 }
 
 static void expect_all_same(const struct all *all)
@@ -196,6 +226,8 @@ static void expect_equal(void)
 {
     static struct all by_steps, by_feeds;
     struct random random = {1999};
+    memset(&by_steps, 0, sizeof by_steps);
+    memset(&by_feeds, 0, sizeof by_feeds);
     for (uint32_t round = 0; round < 2; round++) {
         size_t count = round == 0 ? RING : 1000;
         set_counts(round);
@@ -253,7 +285,7 @@ static void time_stream(taking *take, struct timings *first_times, struct timing
     expect_same_lent(&to_first, &to_c);
 }
 
-static void measure(const char *title, taking *take)
+static void measure(const char *title, const char *others, taking *take)
 {
     struct timings first_times = {0}, c_times = {0};
     for (unsigned i = 0; i < REPEATS; i++)
@@ -263,7 +295,9 @@ static void measure(const char *title, taking *take)
 
     print_text(title);
     print_number(RING * ROUNDS);
-    print_text(" records with losses and other frames, in timings of ");
+    print_text(" records with losses and ");
+    print_text(others);
+    print_text(", in timings of ");
     print_number(RING);
     print_text(", ");
     print_number(REPEATS);
@@ -275,12 +309,19 @@ static void measure(const char *title, taking *take)
     print_ratios("first / C: ", &first_times, &c_times);
 }
 
+static void measure_both(const char *others)
+{
+    expect_equal();
+    measure("step, ", others, take_by_steps);
+    measure("feed, many records a call, ", others, take_by_feeds);
+}
+
 int main(void)
 {
-    make_stream();
-    expect_equal();
-    measure("step, ", take_by_steps);
-    measure("feed, many records a call, ", take_by_feeds);
+    make_stream(false, 50);
+    measure_both("memory dumps");
+    make_stream(true, 4);
+    measure_both("bursts");
     print_flush();
     return 0;
 }

@@ -20,6 +20,8 @@ static const char *const names[FUNCTIONS] = {
     [RANGE] = "range",
     [SAMPLES] = "samples",
     [FIELD] = "field",
+    [BURST_RANGE] = "burst_range",
+    [BURST_SAMPLES] = "burst_samples",
     [LAY_ELECTRONS] = "lay_electrons",
     [CELL] = "cell",
     [BIN_SAMPLES] = "bin_samples",
@@ -36,6 +38,12 @@ static const char *const names[FUNCTIONS] = {
     [MAJOR_WORD] = "major_word",
     [MAJOR_SAMPLE] = "major_sample",
     [MAJOR_FIELD] = "major_field",
+    [SNAPSHOT_BYTE] = "snapshot_byte",
+    [SNAPSHOT_THREE_D] = "snapshot_three_d",
+    [SNAPSHOT_PITCH] = "snapshot_pitch",
+    [SNAPSHOT_TOTAL] = "snapshot_total",
+    [SNAPSHOT_RATE] = "snapshot_rate",
+    [SNAPSHOT_ANGLE] = "snapshot_angle",
 };
 
 const char *function_name(enum function function)

@@ -9,7 +9,9 @@ _Static_assert(LPMAG_RECORD == SECOND_RECORD && LPMAG_PACKET == SECOND_PACKET &&
                    LPMAG_PACKET_AT == SECOND_PACKET_AT && LPMAG_MAG == SECOND_MAG &&
                    LPMAG_MAG_AT == SECOND_MAG_AT && LPMAG_SAMPLES == SECOND_SAMPLES &&
                    LPMAG_SCIENCE == SECOND_SCIENCE && LPMAG_SCIENCE_AT == SECOND_SCIENCE_AT &&
-                   LPMAG_CELLS == SECOND_CELLS && LPMAG_FRAME == SECOND_FRAME,
+                   LPMAG_CELLS == SECOND_CELLS && LPMAG_FRAME == SECOND_FRAME &&
+                   LPMAG_SNAPSHOT == SECOND_SNAPSHOT && LPMAG_BURST == SECOND_BURST &&
+                   LPMAG_SECOND_AT == SECOND_BURST_AT,
                "both headers name the same sizes and places");
 
 /* Each function of either header has the parameters of the other's. */
@@ -30,6 +32,8 @@ SAME_PROTOTYPE(refusal_words);
 SAME_PROTOTYPE(range);
 SAME_PROTOTYPE(samples);
 SAME_PROTOTYPE(field);
+SAME_PROTOTYPE(burst_range);
+SAME_PROTOTYPE(burst_samples);
 SAME_PROTOTYPE(lay_electrons);
 SAME_PROTOTYPE(cell);
 SAME_PROTOTYPE(bin_samples);
@@ -46,6 +50,12 @@ SAME_PROTOTYPE(finish);
 SAME_PROTOTYPE(major_word);
 SAME_PROTOTYPE(major_sample);
 SAME_PROTOTYPE(major_field);
+SAME_PROTOTYPE(snapshot_byte);
+SAME_PROTOTYPE(snapshot_three_d);
+SAME_PROTOTYPE(snapshot_pitch);
+SAME_PROTOTYPE(snapshot_total);
+SAME_PROTOTYPE(snapshot_rate);
+SAME_PROTOTYPE(snapshot_angle);
 
 /* Prints how often something was met; ends the program if it never was. */
 static void print_met(const char *what, uint64_t times)
@@ -87,6 +97,12 @@ static void print_answers_met(const struct drive *drive)
         {MAJOR_WORD, 3, {LPMAG_OK, LPMAG_NO_SUCH_PLACE, LPMAG_ABSENT}},
         {MAJOR_SAMPLE, 3, {LPMAG_OK, LPMAG_NO_SUCH_PLACE, LPMAG_ABSENT}},
         {MAJOR_FIELD, 3, {LPMAG_OK, LPMAG_NO_SUCH_PLACE, LPMAG_ABSENT}},
+        {SNAPSHOT_BYTE, 3, {LPMAG_OK, LPMAG_NO_SUCH_PLACE, LPMAG_ABSENT}},
+        {SNAPSHOT_THREE_D, 3, {LPMAG_OK, LPMAG_NO_SUCH_PLACE, LPMAG_ABSENT}},
+        {SNAPSHOT_PITCH, 3, {LPMAG_OK, LPMAG_NO_SUCH_PLACE, LPMAG_ABSENT}},
+        {SNAPSHOT_TOTAL, 3, {LPMAG_OK, LPMAG_NO_SUCH_PLACE, LPMAG_ABSENT}},
+        {SNAPSHOT_RATE, 3, {LPMAG_OK, LPMAG_NO_SUCH_PLACE, LPMAG_ABSENT}},
+        {SNAPSHOT_ANGLE, 3, {LPMAG_OK, LPMAG_NO_SUCH_PLACE, LPMAG_ABSENT}},
     };
     for (size_t i = 0; i < sizeof given / sizeof given[0]; i++)
         for (size_t j = 0; j < given[i].count; j++) {
@@ -142,17 +158,105 @@ static uint64_t rarest_taken(const uint64_t (*times)[16])
 
 static const char *const call_names[CALLS] = {[BY_STEP] = "step", [BY_FEED] = "feed", [BY_FINISH] = "finish"};
 
+/* A record that closes an accumulation is real-time and has no burst packet, and finish closes one
+ * snapshot at most. */
+static bool can_close(enum call call, bool accumulation, size_t snapshots)
+{
+    return call == BY_FINISH ? snapshots < MOST_CLOSED : !accumulation || snapshots == 0;
+}
+
 static void print_closed_met(const struct drive *drive)
 {
     static const char *const by[CALLS] = {"records that close ", "feeds that close ", "finishes that close "};
-    static const char *const what[2][2] = {{"nothing", "an accumulation alone"},
-                                           {"a major frame alone", "both"}};
+    static const char *const what[2][2] = {{"", "an accumulation"},
+                                           {"a major frame", "a major frame and an accumulation"}};
+    static const char *const alone[MOST_CLOSED + 1] = {"nothing", "a snapshot alone", "two snapshots alone"};
+    static const char *const beside[MOST_CLOSED + 1] = {" alone", " and a snapshot", " and two snapshots"};
     for (enum call call = 0; call < CALLS; call++)
         for (size_t major = 0; major < 2; major++)
-            for (size_t accumulation = 0; accumulation < 2; accumulation++) {
-                print_text(by[call]);
-                print_met(what[major][accumulation], drive->closed[call][major][accumulation]);
-            }
+            for (size_t accumulation = 0; accumulation < 2; accumulation++)
+                for (size_t snapshots = 0; snapshots <= MOST_CLOSED; snapshots++) {
+                    if (!can_close(call, accumulation == 1, snapshots))
+                        continue;
+                    print_text(by[call]);
+                    print_text(what[major][accumulation]);
+                    print_met((major + accumulation == 0 ? alone : beside)[snapshots],
+                              drive->closed[call][major][accumulation][snapshots]);
+                }
+}
+
+/* The rarest pair of a last packet and one above it, or of one that isn't. */
+static uint64_t rarest_packets(const uint64_t (*times)[PACKETS], bool above)
+{
+    uint64_t least = UINT64_MAX;
+    for (size_t last = 0; last < PACKETS; last++)
+        for (size_t next = 0; next < PACKETS; next++)
+            if ((next > last) == above)
+                least = times[last][next] < least ? times[last][next] : least;
+    return least;
+}
+
+/* Of the burst packets that are none of a snapshot, with one open or not: the rarest, with bit 6 or
+ * without. */
+static uint64_t rarest_fill(const struct drive *drive, bool open, bool bit_6)
+{
+    uint64_t least = UINT64_MAX;
+    for (size_t type = 56; type < TYPE_NUMBERS; type++)
+        if (is_burst_type((uint8_t)type))
+            least = drive->fill_bits[type][open][bit_6] < least ? drive->fill_bits[type][open][bit_6] : least;
+    return least;
+}
+
+static uint64_t rarest_burst(const uint64_t *times)
+{
+    uint64_t least = UINT64_MAX;
+    for (uint32_t which = 0; which < BURST_TYPES; which++)
+        least = times[burst_type(which)] < least ? times[burst_type(which)] : least;
+    return least;
+}
+
+static void print_bursts_met(const struct drive *drive)
+{
+    static const char *const where[TOGETHER] = {"in two frames, of the rarest types",
+                                                "in one frame, of the rarest types"};
+    static const char *const what[SINCE] = {
+        [NOTHING_SINCE] = "packets that join, ",
+        [CUT_SINCE] = "packets of a higher type after a cut, ",
+        [OWN_BIT] = "packets of a higher type with bit 6, ",
+        [BOTH_BITS] = "packets of a higher type with bit 6 after a cut, ",
+    };
+    print_met("half bursts taken, of the rarest type", rarest_burst(drive->bursts[false]));
+    print_met("full bursts taken, of the rarest type", rarest_burst(drive->bursts[true]));
+    for (enum together together = 0; together < TOGETHER; together++) {
+        for (enum since since = 0; since < SINCE; since++) {
+            if (together == IN_ONE_FRAME && (since == CUT_SINCE || since == BOTH_BITS))
+                continue; /* nothing comes between the two packets of a frame */
+            print_text(what[since]);
+            print_met(where[together], rarest_packets(drive->above[together][since], true));
+        }
+        print_text("packets of a type not above the last, ");
+        print_met(where[together], rarest_packets(drive->packets_not_above[together], false));
+    }
+    print_met("packets with no snapshot open", drive->packets_alone);
+    for (size_t open = 0; open < 2; open++)
+        for (size_t bit_6 = 0; bit_6 < 2; bit_6++) {
+            print_text(open ? "packets of 56, 57 and 62 with a snapshot open"
+                            : "packets of 56, 57 and 62 with none open");
+            print_met(bit_6 ? ", with bit 6, the rarest" : ", without bit 6, the rarest",
+                      rarest_fill(drive, open == 1, bit_6 == 1));
+        }
+    print_met("records after a missing count with a snapshot open", drive->missing_with_open);
+    print_met("bytes of a snapshot, of the rarest place", rarest(drive->bytes_given, LPMAG_SNAPSHOT));
+    print_met("bytes of a snapshot absent, of the rarest place", rarest(drive->bytes_absent, LPMAG_SNAPSHOT));
+    for (size_t which = 0; which < 2; which++) {
+        uint64_t least = UINT64_MAX;
+        for (size_t range = 0; range < 8; range++)
+            least = drive->burst_ranges[range][which] < least ? drive->burst_ranges[range][which] : least;
+        print_text(which == 0 ? "seconds of MAG in packet one" : "seconds of MAG in packet two");
+        print_met(", of the rarest range", least);
+        print_text(which == 0 ? "packets one" : "packets two");
+        print_met(" that are no second of MAG", drive->burst_ranges[LPMAG_NO_SUCH_PLACE][which]);
+    }
 }
 
 static void print_joining_met(const struct drive *drive)
@@ -198,7 +302,7 @@ static void print_clock_met(const struct drive *drive)
 static void print_broken_met(const struct drive *drive, enum call call)
 {
     for (enum clause clause = 0; clause < CLAUSES; clause++) {
-        if (clause == FIRST_COUNT_BELOW || clause == LAST_COUNT_BELOW)
+        if (clause == FIRST_COUNT_BELOW || clause == LAST_COUNT_BELOW || clause == SNAPSHOT_COUNT_BELOW)
             continue; /* never broken alone */
         print_text(call_names[call]);
         print_text(" with a state that breaks only \"");
@@ -220,6 +324,10 @@ static void print_structs_met(const struct drive *drive, enum call call)
     print_met(" with the rarest flag byte in the fresh state", rarest(drive->flags[call][true], 256));
     print_text(call_names[call]);
     print_met(" with the rarest flag byte in another", rarest(drive->flags[call][false], 256));
+    print_text(call_names[call]);
+    print_met(" with the rarest cut mark and no snapshot open", rarest(drive->cuts[call][false], 256));
+    print_text(call_names[call]);
+    print_met(" with the rarest cut mark of an open snapshot", rarest(drive->cuts[call][true], 256));
     print_text(call_names[call]);
     print_met(" with the rarest bit of the spare fields", rarest(drive->spares[call], SPARE_BITS));
     print_text(call_names[call]);
@@ -271,6 +379,7 @@ static void print_reader_met(const struct drive *drive)
     print_fed_met(drive);
     print_closed_met(drive);
     print_joining_met(drive);
+    print_bursts_met(drive);
     print_clock_met(drive);
     print_met("states at random that keep the list", drive->passing);
     for (enum call call = 0; call < CALLS; call++) {
@@ -287,8 +396,25 @@ static void print_reader_met(const struct drive *drive)
     print_met("accumulations handed out in part", drive->accumulations_part);
     print_met("accumulations torn", drive->accumulations_torn);
     print_met("accumulations handed out with frames of two turns", drive->accumulations_across);
+    print_met("records kept that have MAG", drive->sent_with_mag);
+    print_met("packets of 36 to 55 kept", drive->sent_packets);
+    print_met("snapshots handed out whole", drive->snapshots_whole);
+    print_met("snapshots handed out in part", drive->snapshots_part);
+    print_met("snapshots handed out with packets of two turns", drive->snapshots_across);
+    print_met("snapshots handed out with the first count of another", drive->snapshots_of_a_frame);
     print_met("major frames handed out whole", drive->majors_whole);
     print_met("major frames handed out in part", drive->majors_part);
+}
+
+/* Each second type byte is met, and passes or is refused as 02's request 2 says of its type. */
+static uint64_t rarest_second(const struct drive *drive)
+{
+    uint64_t least = UINT64_MAX;
+    for (size_t code = 0; code < 256; code++) {
+        uint64_t times = drive->second_codes[is_burst_type(code % 64)][code];
+        least = times < least ? times : least;
+    }
+    return least;
 }
 
 static void print_all_met(const struct drive *drive)
@@ -308,8 +434,11 @@ static void print_all_met(const struct drive *drive)
         print_met("", drive->refusals[number]);
     }
     print_met("real-time packets, of the rarest type among 0 to 35", rarest(drive->kinds, 36));
+    print_met("half bursts", drive->kinds[LPMAG_HALF_BURST]);
+    print_met("full bursts", drive->kinds[LPMAG_FULL_BURST]);
     print_met("other packets", drive->kinds[LPMAG_OTHER]);
     print_met("undefined packets", drive->kinds[LPMAG_UNDEFINED]);
+    print_met("full bursts of the rarest second type byte", rarest_second(drive));
     print_met("words of the rarest refusal among 1 to 12", rarest(drive->words + 1, 12));
     print_met("words of refusal 14", drive->words[14]);
     print_met("words of another number", drive->words[0]);
@@ -338,7 +467,9 @@ int main(int argc, char **argv)
     drive_cells(&drive);
     drive_counts(&drive);
     drive_questions(&drive);
+    drive_snapshot(&drive);
     drive_reader(&drive);
+    drive_bursts(&drive);
     drive_turns(&drive);
     drive_feed(&drive);
     drive_sent(&drive);

@@ -9,8 +9,10 @@
 
 #include "../include/lpmag.h"
 #include "second.h"
+#include "second_bursts.h"
 #include "second_electrons.h"
 #include "second_reader.h"
+#include "second_snapshot.h"
 
 #include <stdbool.h>
 #include <stddef.h>
@@ -32,6 +34,8 @@ enum function {
     RANGE,
     SAMPLES,
     FIELD,
+    BURST_RANGE,
+    BURST_SAMPLES,
     LAY_ELECTRONS,
     CELL,
     BIN_SAMPLES,
@@ -48,15 +52,22 @@ enum function {
     MAJOR_WORD,
     MAJOR_SAMPLE,
     MAJOR_FIELD,
+    SNAPSHOT_BYTE,
+    SNAPSHOT_THREE_D,
+    SNAPSHOT_PITCH,
+    SNAPSHOT_TOTAL,
+    SNAPSHOT_RATE,
+    SNAPSHOT_ANGLE,
     FUNCTIONS
 };
 
 const char *function_name(enum function function);
 
 /* The clauses of 01's state list, in its order; before them what the header says
- * of the flag and the spare fields. */
+ * of the flags and the spare fields, after them what 02's request 2 adds. */
 enum clause {
     FLAG_IS_0_OR_1,
+    CUT_IS_0_OR_1,
     SPARES_ARE_0,
     LAST_ACCEPTED_BELOW,
     FIRST_COUNT_BELOW,
@@ -74,6 +85,11 @@ enum clause {
     NO_ACCUMULATION_OPEN,
     NO_SLOT_HELD,
     NOTHING_ACCEPTED,
+    SNAPSHOT_COUNT_BELOW,
+    PACKETS_AMONG_20,
+    HIGHEST_IS_LAST_PACKET,
+    SNAPSHOT_BEFORE_LAST,
+    NO_SNAPSHOT_OPEN,
     CLAUSES
 };
 
@@ -96,6 +112,9 @@ enum lent_room {
     FINISHED_CELLS,
     OPEN_SAMPLES,
     FINISHED_SAMPLES,
+    OPEN_SNAPSHOT,
+    FIRST_FINISHED,
+    SECOND_FINISHED,
     SIZED,
     STATE = SIZED,
     TOLD,
@@ -108,11 +127,22 @@ const char *room_name(enum lent_room room);
 enum call { BY_STEP, BY_FEED, BY_FINISH, CALLS };
 
 /* The bits of all spare fields of a state: the state's own, then those of the
- * accumulation, of 8, 16 and 32 bits each, then the major frame's 32. */
-enum { SPARES = 8 + 16 + 32, SPARE_BITS = 2 * SPARES + 32 };
+ * accumulation, of 8, 16 and 32 bits each, then the major frame's 32 and the snapshot's 16. */
+enum { SPARES = 8 + 16 + 32, SPARE_BITS = 2 * SPARES + 32 + 16 };
 
 /* The numbers of refusals are below this, and 0 is none; 13 is no refusal's. */
 enum { REFUSALS = 15 };
+
+/* The packets of a snapshot, types 36 to 55; and the types of all burst packets. A frame closes two
+ * snapshots at most. */
+enum { FIRST_PACKET = 36, PACKETS = 20, TYPE_NUMBERS = 64, MOST_CLOSED = 2 };
+
+/* What a packet of a type above the last one held finds, by which it joins or not (02, request 2):
+ * a count that wasn't accepted or bit 6 since, and bit 6 of its own. */
+enum since { NOTHING_SINCE, CUT_SINCE, OWN_BIT, BOTH_BITS, SINCE };
+
+/* Where two packets come: in one frame, or in two. */
+enum together { IN_TWO_FRAMES, IN_ONE_FRAME, TOGETHER };
 
 /* How many whole records there are, for counting what is fed. */
 enum given { NO_RECORD, ONE_RECORD, MANY_RECORDS, GIVEN };
@@ -128,7 +158,8 @@ struct drive {
     uint64_t kept_ranges;                     /* numbers lent for a range, likewise */
     uint64_t records;                         /* through every function of a record */
     uint64_t refusals[12];                    /* by number; 0 where a record passes */
-    uint64_t kinds[LPMAG_UNDEFINED + 1];      /* of whole packets */
+    uint64_t kinds[LPMAG_FULL_BURST + 1];     /* of whole packets */
+    uint64_t second_codes[2][256];            /* of full bursts, by whether rule 11 is kept */
     uint64_t words[REFUSALS];                 /* given, by number of the refusal; 0 for any other */
     uint64_t words_not_given;                 /* the room being too small */
     uint64_t ranges[LPMAG_NO_SUCH_PLACE + 1]; /* answered for samples */
@@ -151,7 +182,6 @@ struct drive {
     uint64_t fresh[CALLS];                 /* calls of answer 0 with the fresh state */
     uint64_t fates[LPMAG_NEITHER + 1];     /* of accepted frames */
     uint64_t others_counted[2];            /* other frames with no accumulation open, and with one */
-    uint64_t closed[CALLS][2][2];          /* by calls of answer 0: a major frame, an accumulation */
     uint64_t edges[EDGES][36][36];         /* frames at the edges, by last type and type above it */
     uint64_t not_above[36][36];            /* frames of a type not above the last, likewise */
     uint64_t past_others[LPMAG_JOINS + 1]; /* frames after other frames, by what became of them */
@@ -163,8 +193,24 @@ struct drive {
     uint64_t passing;                      /* states made at random that break none */
     uint64_t wrong_sizes[CALLS][SIZED];    /* alone */
     uint64_t flags[CALLS][2][256];         /* flag bytes, in the fresh state or another */
+    uint64_t cuts[CALLS][2][256];          /* cut marks, with no snapshot open or with one */
     uint64_t spares[CALLS][SPARE_BITS];    /* bits of spare fields, alone in a good state */
     uint64_t structs[CALLS];               /* told, with all fields known and different */
+
+    /* By calls of answer 0: whether a major frame is closed, an accumulation, and how many snapshots. */
+    uint64_t closed[CALLS][2][2][MOST_CLOSED + 1];
+
+    /* And of bursts: frames taken, half and full, by type; packets of 36 to 55 by that of the last one
+     * held; packets of 56, 57 and 62 by type, with a snapshot open or not, with bit 6 or not. */
+    uint64_t bursts[2][TYPE_NUMBERS];
+    uint64_t above[TOGETHER][SINCE][PACKETS][PACKETS];
+    uint64_t packets_not_above[TOGETHER][PACKETS][PACKETS];
+    uint64_t fill_bits[TYPE_NUMBERS][2][2];
+    uint64_t packets_alone;                            /* of 36 to 55, with no snapshot open */
+    uint64_t missing_with_open;                        /* records after a missing count, one being open */
+    uint64_t bytes_given[LPMAG_SNAPSHOT];              /* by place in a snapshot */
+    uint64_t bytes_absent[LPMAG_SNAPSHOT];             /* likewise */
+    uint64_t burst_ranges[LPMAG_NO_SUCH_PLACE + 1][2]; /* answered for samples, by packet */
 
     /* And of what is fed. */
     uint64_t fed[REFUSALS];            /* feeds of answer 0 that took a record, by what it was answered */
@@ -184,6 +230,12 @@ struct drive {
     uint64_t accumulations_part;   /* with fewer */
     uint64_t accumulations_torn;   /* that were sent and handed out in more than one */
     uint64_t accumulations_across; /* handed out with frames of two turns */
+    uint64_t sent_with_mag;        /* records kept that have MAG, half bursts among them */
+    uint64_t sent_packets;         /* packets of 36 to 55 in records kept */
+    uint64_t snapshots_whole;      /* handed out with all 20 packets */
+    uint64_t snapshots_part;       /* with fewer */
+    uint64_t snapshots_across;     /* with packets of two turns */
+    uint64_t snapshots_of_a_frame; /* that have the first count of another */
     uint64_t majors_whole;         /* handed out with all 16 slots */
     uint64_t majors_part;          /* with fewer */
 };
@@ -193,7 +245,7 @@ struct drive {
 void begin(struct drive *drive, const char *phase);
 
 /* One question to both implementations. */
-#define QUESTION_ALSO 4
+#define QUESTION_ALSO 7
 struct question {
     enum function function;
     const uint8_t *bytes; /* the record, packet, MAG bytes, science, cells or any bytes */
@@ -234,14 +286,23 @@ void drive_sent(struct drive *drive);
 void drive_states(struct drive *drive);
 void drive_structs(struct drive *drive);
 void drive_refusals(struct drive *drive);
+void drive_bursts(struct drive *drive);
 void drive_major(struct drive *drive);
+void drive_snapshot(struct drive *drive);
 void drive_layer(struct drive *drive);
 
 /* The fields of a record, from the content it was made of. */
 struct content;
 struct lpmag_fields fields_of(const struct content *content);
 
+/* The kind of a packet by its two type bytes, of which only a full burst has the second. */
+uint8_t kind_of(uint8_t code, uint8_t second_code);
+
 /* The range and the samples of MAG bytes, with a room of so many numbers. */
 void compare_mag(struct drive *drive, const uint8_t *mag, size_t length, size_t room_numbers);
+
+/* Those of a burst packet of a record. */
+void compare_burst(struct drive *drive, const uint8_t *record, size_t length, uint8_t which,
+                   size_t room_numbers);
 
 #endif

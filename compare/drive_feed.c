@@ -11,17 +11,25 @@ static const struct lpmag_state fresh;
 
 /* ---- lengths ---------------------------------------------------------- */
 
-/* So many records from a slot on, of one accumulation: of those in one major frame none
- * has anything to tell. Often it is the last of the turn. */
+/* So many records from a slot on, of one accumulation and of one snapshot: of those in one major
+ * frame none has anything to tell. Often it is the last of the turn. */
 static void make_quiet(struct random *random, struct row *row, uint32_t slot, uint32_t records)
 {
     struct input input;
     uint64_t last = ROUND / SLOTS - 1;
     uint64_t first = SLOTS * (random_once_in(random, 4) ? last : random_to(random, last)) + slot;
     uint8_t type = (uint8_t)random_below(random, TYPES - records);
+    uint8_t packet = 36;
     row_clear(row);
     for (uint32_t i = 0; i < records; i++) {
-        input_make(random, &input, first + i, random_once_in(random, 4) ? other_type(random) : type++);
+        if (packet > 54 || random_once_in(random, 2)) {
+            input_make(random, &input, first + i, random_once_in(random, 4) ? 63 : type++);
+        } else if (random_once_in(random, 2)) {
+            input_make_coded(random, &input, first + i, packet++, 0);
+        } else {
+            input_make_coded(random, &input, first + i, TOP_BIT | packet, (uint8_t)(TOP_BIT | (packet + 1)));
+            packet += 2;
+        }
         row_add(row, &input, LPMAG_OK);
     }
 }
@@ -129,16 +137,15 @@ static void make_stream(struct random *random, struct row *row)
     struct input input;
     uint64_t count = stream_first(random);
     uint64_t last = COUNTS; /* accepted; none so far */
-    uint8_t last_type = 0;
+    struct lasts lasts = {0, 0};
     row_clear(row);
     for (unsigned i = 0; i < 300; i++) {
-        uint8_t type = stream_type(random, last_type);
         if (last < COUNTS && random_once_in(random, 16)) {
-            input_make(random, &input, stream_late(random, last), type);
+            stream_input(random, &input, stream_late(random, last), lasts);
             row_add(row, &input, 12);
             continue;
         }
-        input_make(random, &input, count, type);
+        stream_input(random, &input, count, lasts);
         if (random_once_in(random, 16)) {
             unsigned rule = random_between(random, GENERATE_FIRST_RULE + 1, GENERATE_LAST_RULE);
             input_spoil(random, &input, rule);
@@ -147,7 +154,7 @@ static void make_stream(struct random *random, struct row *row)
         }
         row_add(row, &input, LPMAG_OK);
         last = count;
-        last_type = type < TYPES ? type : last_type;
+        lasts_take(&lasts, &input);
         count += stream_ahead(random);
     }
     row_end(random, row, random_below(random, LPMAG_RECORD));

@@ -19,21 +19,25 @@ static uint8_t step(struct lpmag_reader *reader, const uint8_t *record, size_t l
 {
     return second_step(&reader->state, &reader->report, reader->open_cells, LPMAG_CELLS,
                        reader->finished_cells, LPMAG_CELLS, reader->open_samples, LPMAG_FRAME,
-                       reader->finished_samples, LPMAG_FRAME, record, length);
+                       reader->finished_samples, LPMAG_FRAME, reader->open_snapshot, LPMAG_SNAPSHOT,
+                       reader->first_snapshot, LPMAG_SNAPSHOT, reader->second_snapshot, LPMAG_SNAPSHOT,
+                       record, length);
 }
 
 static uint8_t feed(struct lpmag_reader *reader, const uint8_t *bytes, size_t length)
 {
     return second_feed(&reader->state, &reader->fed, reader->open_cells, LPMAG_CELLS, reader->finished_cells,
                        LPMAG_CELLS, reader->open_samples, LPMAG_FRAME, reader->finished_samples, LPMAG_FRAME,
-                       bytes, length);
+                       reader->open_snapshot, LPMAG_SNAPSHOT, reader->first_snapshot, LPMAG_SNAPSHOT,
+                       reader->second_snapshot, LPMAG_SNAPSHOT, bytes, length);
 }
 
 static uint8_t finish(struct lpmag_reader *reader)
 {
     return second_finish(&reader->state, &reader->closed, reader->open_cells, LPMAG_CELLS,
                          reader->finished_cells, LPMAG_CELLS, reader->open_samples, LPMAG_FRAME,
-                         reader->finished_samples, LPMAG_FRAME);
+                         reader->finished_samples, LPMAG_FRAME, reader->open_snapshot, LPMAG_SNAPSHOT,
+                         reader->first_snapshot, LPMAG_SNAPSHOT, reader->second_snapshot, LPMAG_SNAPSHOT);
 }
 
 /* Any bytes are a record to refuse; they come between good ones, fed and stepped. */
@@ -43,7 +47,7 @@ static void compare_calls(struct drive *drive, struct lpmag_reader *layer, struc
     uint64_t count = random_below(random, 1000);
     for (unsigned i = 0; i < 300; i++, count += stream_ahead(random)) {
         struct input input;
-        input_make(random, &input, count, stream_type(random, expected->state.accumulation.last_type));
+        stream_input(random, &input, count, lasts_of(&expected->state));
         if (random_once_in(random, 8))
             random_fill(random, input.record, input.length);
 

@@ -1,7 +1,7 @@
-/* The magnetometer: range and samples of MAG bytes, and the nominal field. */
-#include "drive.h"
+/* The magnetometer: range and samples of MAG bytes, and of the burst packets that are a second of
+ * MAG; and the nominal field. */
+#include "reader.h"
 
-#include "generate.h"
 #include "text.h"
 
 void compare_mag(struct drive *drive, const uint8_t *mag, size_t length, size_t room_numbers)
@@ -60,6 +60,77 @@ static void compare_every_number(struct drive *drive)
         expect_answer(drive, &question, lpmag_samples(mag, sizeof made, samples, LPMAG_SAMPLES), status & 7);
         for (unsigned k = 0; k < LPMAG_SAMPLES; k++)
             expect_answer(drive, &question, (uint64_t)(samples[k] + 2048), numbers[k]);
+    }
+}
+
+/* ---- a second of MAG in a burst --------------------------------------- */
+
+/* The 82 bytes of burst packet `which` if it is of type 56; null where the record doesn't pass, has
+ * no such packet or has one of another type (000, sections 2.1.2, 2.1.3 and 2.4). */
+static const uint8_t *burst_mag(const uint8_t *record, size_t length, uint8_t which)
+{
+    if (lpmag_check(record, length) != LPMAG_OK)
+        return NULL;
+    const uint8_t *packet = record + LPMAG_PACKET_AT;
+    uint8_t kind = kind_of(packet[0], packet[85]);
+    if (kind == LPMAG_HALF_BURST)
+        return which == 0 && packet[0] % 64 == 56 ? packet + 86 : NULL;
+    if (kind != LPMAG_FULL_BURST || which > 1)
+        return NULL;
+    return packet[which == 0 ? 0 : 85] % 64 == 56 ? packet + (which == 0 ? 3 : 86) : NULL;
+}
+
+void compare_burst(struct drive *drive, const uint8_t *record, size_t length, uint8_t which,
+                   size_t room_numbers)
+{
+    const uint8_t *mag = burst_mag(record, length, which);
+    uint8_t range = mag == NULL ? LPMAG_NO_SUCH_PLACE : mag[0] % 8;
+    struct question question = {BURST_RANGE, record, length, {{"packet", which}}};
+    uint8_t first = lpmag_burst_range(record, length, which);
+    same_answer(drive, &question, first, second_burst_range(record, length, which));
+    expect_answer(drive, &question, first, range);
+
+    struct rooms rooms;
+    rooms_make(&rooms, &drive->random, room_numbers * sizeof(int16_t));
+    int16_t *room = room_of_numbers(&rooms, &rooms.first);
+    first = lpmag_burst_samples(record, length, which, room, room_numbers);
+    uint8_t second =
+        second_burst_samples(record, length, which, room_of_numbers(&rooms, &rooms.second), room_numbers);
+    question = (struct question){BURST_SAMPLES, record, length, {{"packet", which}, {"room", room_numbers}}};
+    same_answer(drive, &question, first, second);
+    expect_answer(drive, &question, first, room_numbers == LPMAG_SAMPLES ? range : LPMAG_NO_SUCH_PLACE);
+    same_rooms(drive, &question, &rooms, first == LPMAG_NO_SUCH_PLACE);
+    for (size_t k = 0; first != LPMAG_NO_SUCH_PLACE && k < LPMAG_SAMPLES; k++)
+        expect_answer(drive, &question, (uint64_t)(room[k] + 2048), (uint64_t)(mag_number(mag, k) + 2048));
+    drive->burst_ranges[first][which % 2]++;
+}
+
+/* Half and full bursts of every type, and what is none, under all top bits; in full ones both types
+ * are 56 more often than others. */
+static void compare_bursts(struct drive *drive)
+{
+    static const uint8_t whiches[] = {0, 1, 2, 3, 127, 128, 254, 255};
+    static const size_t rooms[] = {LPMAG_SAMPLES, LPMAG_SAMPLES, 0, 53, 55, 108};
+    uint8_t made[GENERATE_LONGEST];
+    struct random *random = &drive->random;
+    begin(drive, "seconds of MAG in every packet of every frame, with rooms of many sizes");
+    for (unsigned i = 0; i < 30000; i++) {
+        uint8_t code = (uint8_t)(i % 2 == 0 ? i / 2 : (i / 2 % 4) << 6 | 56);
+        uint8_t second_code = (uint8_t)(i / 8 % 4 << 6 | 56);
+        if (random_once_in(random, 2))
+            second_code = (uint8_t)random_next(random);
+        struct content content =
+            generate_content_with(random, random_below(random, 1u << 24), code, second_code);
+        size_t length = GENERATE_RECORD;
+        generate_record(random, &content, made);
+        if (random_once_in(random, 8))
+            length = spoil(random, made, random_between(random, GENERATE_FIRST_RULE, GENERATE_LAST_RULE));
+        const uint8_t *record = lend_bytes(random, made, length);
+        for (size_t j = 0; j < sizeof whiches; j++)
+            compare_burst(drive, record, length, whiches[j], rooms[random_below(random, 6)]);
+        if (length > 0)
+            expect_bytes(drive, &(struct question){BURST_SAMPLES, record, length, {{NULL, 0}}},
+                         "the record's bytes were changed", record, made, length);
     }
 }
 
@@ -174,6 +245,7 @@ void drive_mag(struct drive *drive)
 {
     compare_sizes(drive);
     compare_every_number(drive);
+    compare_bursts(drive);
     compare_field_examples(drive);
     compare_every_field(drive);
 }

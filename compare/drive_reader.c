@@ -158,13 +158,13 @@ static void compare_stream(struct drive *drive)
     if (random_once_in(random, 8))
         compare_finish(drive, &reader, LPMAG_OK);
     for (unsigned i = 0; i < 400; i++) {
-        uint8_t type = stream_type(random, reader.state.accumulation.last_type);
+        struct lasts lasts = lasts_of(&reader.state);
         if (reader.state.any && random_once_in(random, 16)) {
-            input_make(random, &input, stream_late(random, reader.state.last), type);
+            stream_input(random, &input, stream_late(random, reader.state.last), lasts);
             compare_step(drive, &reader, &input, 12);
             continue;
         }
-        input_make(random, &input, count, type);
+        stream_input(random, &input, count, lasts);
         if (random_once_in(random, 16)) {
             unsigned rule = random_between(random, GENERATE_FIRST_RULE, GENERATE_LAST_RULE);
             input_spoil(random, &input, rule);

@@ -1,4 +1,4 @@
-/* The record: check, fields, packet, the packet's kind and its MAG bytes, on
+/* The record: check, fields, packet, the packet's kind, its MAG bytes and burst packets, on
  * good, broken and random records. */
 #include "drive.h"
 
@@ -34,9 +34,28 @@ static bool finite(uint32_t bits)
     return (bits & 0x7F800000) != 0x7F800000;
 }
 
+/* 000, sections 2.1 and 2.4, a letter for each type: real-time, burst packets, undefined, other. */
+static const char letters[] = "rrrrrrrrrrrrrrrrrrrrrrrrrrrrrrrrrrrrbbbbbbbbbbbbbbbbbbbbbbuuuubo";
+_Static_assert(sizeof letters == 64 + 1, "there are 64 types");
+
+uint8_t kind_of(uint8_t code, uint8_t second_code)
+{
+    switch (letters[code & 63]) {
+    case 'r':
+        return code & 63;
+    case 'o':
+        return LPMAG_OTHER;
+    case 'u':
+        return LPMAG_UNDEFINED;
+    }
+    if ((code & TOP_BIT) == 0)
+        return LPMAG_HALF_BURST;
+    return letters[second_code & 63] == 'b' ? LPMAG_FULL_BURST : LPMAG_UNDEFINED;
+}
+
 struct lpmag_fields fields_of(const struct content *content)
 {
-    uint8_t type = content->code & 63;
+    uint8_t kind = kind_of(content->code, content->second_code);
     return (struct lpmag_fields){
         .count = content->count,
         .millisecond = content->millisecond,
@@ -48,10 +67,11 @@ struct lpmag_fields fields_of(const struct content *content)
         .second_flag = content->flags[1],
         .third_flag = content->flags[2],
         .frame_code = content->code,
-        .frame_type = type,
-        .kind = type < 36 ? type : LPMAG_OTHER,
+        .frame_type = content->code & 63,
+        .kind = kind,
         .level_finite = finite(content->level),
         .quality_finite = finite(content->quality),
+        .second_code = kind == LPMAG_FULL_BURST ? content->second_code : 0,
     };
 }
 
@@ -99,10 +119,13 @@ static void compare_kind(struct drive *drive, const uint8_t *packet, size_t leng
     uint8_t second = second_kind(packet, length);
     struct question question = {KIND, packet, length, {{NULL, 0}}};
     same_answer(drive, &question, first, second);
-    if (length == LPMAG_PACKET)
-        drive->kinds[first]++;
-    else
-        expect_answer(drive, &question, first, LPMAG_UNDEFINED);
+    expect_answer(drive, &question, first,
+                  length == LPMAG_PACKET ? kind_of(packet[0], packet[85]) : LPMAG_UNDEFINED);
+    if (length != LPMAG_PACKET)
+        return;
+    drive->kinds[first]++;
+    if (is_full_burst(packet[0]))
+        drive->second_codes[first == LPMAG_FULL_BURST][packet[85]]++;
 }
 
 /* Every function of a record. `expected` is the answer of check, or ANY;
@@ -129,6 +152,7 @@ static uint8_t compare_record(struct drive *drive, const uint8_t *made, size_t l
         compare_kind(drive, packet, LPMAG_PACKET);
         compare_mag(drive, packet + LPMAG_MAG_AT, LPMAG_MAG, LPMAG_SAMPLES);
     }
+    compare_burst(drive, record, length, (uint8_t)random_below(&drive->random, 2), LPMAG_SAMPLES);
 
     if (length > 0)
         expect_bytes(drive, &question, "the record's bytes were changed", record, made, length);
@@ -226,7 +250,7 @@ static void compare_lengths(struct drive *drive)
 static void compare_random(struct drive *drive)
 {
     /* The bytes that the rules look at. */
-    static const size_t looked_at[] = {0, 1, 2, 3, 4, 5, 9, 286, 456, 457, 458, 459, 460, 461, 470, 471};
+    static const size_t looked_at[] = {0, 1, 2, 3, 4, 5, 9, 286, 371, 456, 457, 458, 459, 460, 461, 470, 471};
     uint8_t record[GENERATE_LONGEST];
 
     begin(drive, "random bytes");
@@ -246,6 +270,17 @@ static void compare_random(struct drive *drive)
     }
 }
 
+_Noreturn static void refuse_passes(const char *phase, unsigned passes, unsigned passing)
+{
+    print_text(phase);
+    print_text(": ");
+    print_number(passes);
+    print_text(" pass, but it has to be ");
+    print_number(passing);
+    print_text("\n");
+    fail(1, "compare: both implementations pass another number of values than the papers");
+}
+
 /* Every value of one or two bytes of a record that is good otherwise; so many
  * of them have to pass. */
 static void compare_every_value(struct drive *drive, const char *phase, size_t at, size_t size,
@@ -260,15 +295,31 @@ static void compare_every_value(struct drive *drive, const char *phase, size_t a
             record[at + i] = (uint8_t)(value >> 8 * (size - 1 - i));
         passes += compare_record(drive, record, sizeof record, ANY, NULL) == LPMAG_OK;
     }
-    if (passes != passing) {
-        print_text(phase);
-        print_text(": ");
-        print_number(passes);
-        print_text(" pass, but it has to be ");
-        print_number(passing);
-        print_text("\n");
-        fail(1, "compare: both implementations pass another number of values than the papers");
-    }
+    if (passes != passing)
+        refuse_passes(phase, passes, passing);
+}
+
+/* Every frame code with every byte 85. It is looked at in the frames of 23 types with the top bit
+ * set, of which 23 types under any top bits pass. */
+static void compare_codes(struct drive *drive)
+{
+    enum { REAL_TIME = 36 * 4 * 256, DUMPS = 4 * 256, HALF = 23 * 2 * 256, FULL = 23 * 2 * 23 * 4 };
+    const char *phase = "every frame code with every byte 85";
+    uint8_t record[GENERATE_RECORD];
+    unsigned passes = 0;
+    begin(drive, phase);
+    for (unsigned code = 0; code < 256; code++)
+        for (unsigned second_code = 0; second_code < 256; second_code++) {
+            struct content content = generate_content_with(
+                &drive->random, random_below(&drive->random, 1u << 24), (uint8_t)code, (uint8_t)second_code);
+            uint8_t kind = kind_of((uint8_t)code, (uint8_t)second_code);
+            generate_record(&drive->random, &content, record);
+            record[LPMAG_PACKET_AT + 85] = (uint8_t)second_code;
+            passes += compare_record(drive, record, sizeof record, kind == LPMAG_UNDEFINED ? 11 : 0,
+                                     &content) == LPMAG_OK;
+        }
+    if (passes != REAL_TIME + DUMPS + HALF + FULL)
+        refuse_passes(phase, passes, REAL_TIME + DUMPS + HALF + FULL);
 }
 
 static void compare_every_value_looked_at(struct drive *drive)
@@ -279,7 +330,6 @@ static void compare_every_value_looked_at(struct drive *drive)
     compare_every_value(drive, "every sync byte 3", 3, 1, 1);
     compare_every_value(drive, "every version, spacecraft and rate", 4, 2, 1);
     compare_every_value(drive, "every byte 9", 9, 1, 1);
-    compare_every_value(drive, "every frame code", LPMAG_PACKET_AT, 1, 256 - 4 * 4);
     compare_every_value(drive, "every day", 456, 2, 366);
     compare_every_value(drive, "every status word", 470, 2, 2 * 2 * 2);
 }
@@ -317,7 +367,7 @@ static void compare_kinds(struct drive *drive)
 /* ---- the words of a refusal ------------------------------------------- */
 
 /* 01, "Numbers a refused record gets", the second column, with 12 and 14 of 02's request 1 (13
- * is gone by request 11); none before the first. */
+ * is gone by request 11) and what its request 2 adds to 11; none before the first. */
 static const char *expected_words(unsigned number)
 {
     static const char *const words[] = {
@@ -332,7 +382,7 @@ static const char *expected_words(unsigned number)
         [8] = "millisecond above 86,399,999",
         [9] = "a spare status bit is set",
         [10] = "a flag is 00 or 11",
-        [11] = "type is 58-61",
+        [11] = "type is 58-61, or a second type other than 36 to 57 and 62",
         [12] = "something was accepted before and the record isn't later",
         [13] = "",
         [14] = "a turn past 4,095",
@@ -383,6 +433,7 @@ void drive_record(struct drive *drive)
     compare_lengths(drive);
     compare_random(drive);
     compare_every_value_looked_at(drive);
+    compare_codes(drive);
     compare_milliseconds(drive);
     compare_kinds(drive);
     compare_every_word(drive);

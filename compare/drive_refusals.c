@@ -20,7 +20,16 @@ static struct lpmag_state any_state_with_a_next(struct random *random)
 /* ---- sizes ------------------------------------------------------------ */
 
 /* Elements: bytes, or numbers of the samples. */
-static const size_t right_sizes[SIZED] = {LPMAG_CELLS, LPMAG_CELLS, LPMAG_FRAME, LPMAG_FRAME};
+static const size_t right_sizes[SIZED] = {
+    [OPEN_CELLS] = LPMAG_CELLS,         [FINISHED_CELLS] = LPMAG_CELLS,   [OPEN_SAMPLES] = LPMAG_FRAME,
+    [FINISHED_SAMPLES] = LPMAG_FRAME,   [OPEN_SNAPSHOT] = LPMAG_SNAPSHOT, [FIRST_FINISHED] = LPMAG_SNAPSHOT,
+    [SECOND_FINISHED] = LPMAG_SNAPSHOT,
+};
+
+static size_t bytes_in(enum lent_room room, size_t size)
+{
+    return room == OPEN_SAMPLES || room == FINISHED_SAMPLES ? size * sizeof(int16_t) : size;
+}
 
 enum { WRONG_SIZES = 10 };
 static size_t wrong_size(struct random *random, size_t right, unsigned form)
@@ -73,8 +82,9 @@ static void compare_sizes(struct drive *drive)
 static void compare_sizes_exchanged(struct drive *drive)
 {
     static const size_t sizes[] = {
-        LPMAG_CELLS,  LPMAG_FRAME,   LPMAG_FRAME * sizeof(int16_t), LPMAG_RECORD,
-        LPMAG_PACKET, LPMAG_SAMPLES, sizeof(struct lpmag_state),    sizeof(struct lpmag_fed),
+        LPMAG_CELLS,  LPMAG_FRAME,    LPMAG_FRAME * sizeof(int16_t), LPMAG_RECORD,
+        LPMAG_PACKET, LPMAG_SAMPLES,  sizeof(struct lpmag_state),    sizeof(struct lpmag_fed),
+        LPMAG_BURST,  LPMAG_SNAPSHOT,
     };
     static struct reader reader;
     struct random *random = &drive->random;
@@ -85,7 +95,7 @@ static void compare_sizes_exchanged(struct drive *drive)
         input_make(random, &input, state.last + 1, (uint8_t)random_below(random, TYPES));
         for (enum lent_room room = 0; room < SIZED; room++)
             for (size_t j = 0; j < sizeof sizes / sizeof sizes[0]; j++) {
-                if (sizes[j] == right_sizes[room] || sizes[j] * sizeof(int16_t) > LEND_ROOM)
+                if (sizes[j] == right_sizes[room] || bytes_in(room, sizes[j]) > LEND_ROOM)
                     continue;
                 reader_make(random, &reader, &state);
                 reader_resize(random, &reader, room, sizes[j]);

@@ -1,10 +1,12 @@
 /* The reader on records that were sent in order, of which some were lost or
  * spoiled on the way. What it hands out is held against what was sent alone: every
  * real-time frame left unspoiled has each of its 83 science bytes in exactly one
- * cell, its own, and no accumulation holds bytes of two that were sent. */
+ * cell, its own, and no accumulation holds bytes of two that were sent; every burst packet of 36 to
+ * 55 left unspoiled stands in exactly one snapshot, and with its neighbours as 02's rule says. */
 #include "reader.h"
 
 #include "electrons.h"
+#include "streams.h"
 
 #include <system.h>
 
@@ -25,6 +27,7 @@ enum fate { KEPT, LOST, SPOILED };
 struct sent {
     struct input input;
     bool real_time;
+    bool mag;      /* it has some */
     uint64_t at;   /* counted on from the first record's own count, past 2^24 too */
     uint64_t rank; /* of the next real-time frame, this one if it is: its type and 36 times its round */
     enum fate fate;
@@ -33,6 +36,14 @@ struct sent {
     unsigned in_cells;    /* the accumulations handed out that hold it */
     size_t accumulation;  /* the last of these */
     unsigned in_slots;    /* the major frames handed out that hold it */
+};
+
+/* A burst packet of a record that was kept; those of 36 to 55 are handed out in the snapshot of that
+ * number, from 1 on. */
+struct held_packet {
+    struct packet packet;
+    const struct sent *sent;
+    size_t snapshot;
 };
 
 struct stream {
@@ -44,6 +55,12 @@ struct stream {
     size_t cells;              /* filled in them */
     size_t slots;              /* held in the major frames handed out */
     size_t samples;            /* filled in them */
+    size_t packets;            /* of the records kept, in their order */
+    struct held_packet packet[MOST_PACKETS * MOST_SENT];
+    size_t snapshots;        /* handed out so far */
+    size_t packets_out;      /* the packets up to the last one handed out in them */
+    size_t bytes;            /* filled in them */
+    uint64_t snapshot_first; /* the first count of the last one */
 };
 
 /* So many of a hundred records are other frames. */
@@ -122,12 +139,67 @@ static uint64_t first_sent(struct random *random, const struct stream *stream)
     }
 }
 
+/* How the frames that aren't real-time come: as they are played back, each packet after the one before
+ * it, from a marker with bit 6 on; bursts that mostly go on; any. */
+enum playback { PLAYED_BACK, MOSTLY, ANY_OTHERS, PLAYBACKS };
+
+/* The code of the packet after that one. Now and then a second of MAG comes between, as an even one,
+ * or a marker; after the last one a marker, or the next snapshot. */
+static uint8_t played_code(struct random *random, uint8_t packet)
+{
+    if (packet < 36 || packet > 54)
+        return packet < 36 || random_once_in(random, 2) ? BIT_6 | 57 : 36;
+    return random_once_in(random, 12) ? (uint8_t)random_between(random, 56, 57) : (uint8_t)(packet + 1);
+}
+
+/* The type of the last packet of a snapshot, when one more has come; from a marker on it is the first
+ * of all that is next. */
+static uint8_t packet_after(uint8_t packet, uint8_t code)
+{
+    return code == (BIT_6 | 57) ? 55 : code % 64 <= 55 ? code % 64 : packet;
+}
+
+static void make_played(struct random *random, struct input *input, uint64_t count, uint8_t *packet)
+{
+    uint8_t code = played_code(random, *packet);
+    *packet = packet_after(*packet, code);
+    if (random_once_in(random, 2)) {
+        input_make_coded(random, input, count, code, 0);
+    } else {
+        uint8_t second_code = played_code(random, *packet);
+        *packet = packet_after(*packet, second_code);
+        input_make_coded(random, input, count, code | TOP_BIT, second_code);
+    }
+}
+
+static void make_other(struct random *random, struct input *input, uint64_t count, uint8_t *packet,
+                       enum playback playback)
+{
+    struct lasts lasts = {0, *packet};
+    uint8_t code, second_code;
+    switch (playback) {
+    case PLAYED_BACK:
+        make_played(random, input, count, packet);
+        return;
+    case MOSTLY:
+        stream_burst(random, *packet, &code, &second_code);
+        input_make_coded(random, input, count, code, second_code);
+        break;
+    default:
+        input_make(random, input, count, other_type(random));
+    }
+    lasts_take(&lasts, input);
+    *packet = lasts.packet;
+}
+
 /* Real-time types go round and round, from any; of those that were lost far all are real-time
  * frames, or none or any. Makes the records. */
 static void number_sent(struct random *random, struct stream *stream)
 {
     uint64_t at = first_sent(random, stream);
     uint64_t rank = random_below(random, TYPES);
+    enum playback playback = (enum playback)random_below(random, PLAYBACKS);
+    uint8_t packet = 0; /* the last one of a snapshot */
     for (size_t i = 0; i < stream->length; i++) {
         struct sent *sent = &stream->sent[i];
         const uint64_t lost[] = {sent->lost_before, 0, random_to(random, sent->lost_before)};
@@ -136,8 +208,24 @@ static void number_sent(struct random *random, struct stream *stream)
         sent->at = at++;
         sent->rank = rank;
         rank += sent->real_time;
-        input_make(random, &sent->input, sent->at,
-                   sent->real_time ? (uint8_t)(sent->rank % TYPES) : other_type(random));
+        if (sent->real_time)
+            input_make(random, &sent->input, sent->at, (uint8_t)(sent->rank % TYPES));
+        else
+            make_other(random, &sent->input, sent->at, &packet, playback);
+        sent->mag = input_has_mag(&sent->input);
+    }
+}
+
+/* The burst packets of what is kept, in their order. */
+static void list_packets(struct stream *stream)
+{
+    stream->packets = 0;
+    for (size_t i = 0; i < stream->length; i++) {
+        const struct sent *sent = &stream->sent[i];
+        struct packet packets[MOST_PACKETS];
+        size_t number = sent->fate == KEPT ? input_packets(&sent->input, packets) : 0;
+        for (size_t j = 0; j < number; j++)
+            stream->packet[stream->packets++] = (struct held_packet){packets[j], sent, 0};
     }
 }
 
@@ -255,8 +343,54 @@ static void take_accumulation(struct drive *drive, struct stream *stream, enum f
     drive->accumulations_across += first / ROUND < last / ROUND;
 }
 
+/* The next packet of 36 to 55 that isn't handed out so far, or the end of all. */
+static size_t next_packet(const struct stream *stream)
+{
+    size_t next = stream->packets_out;
+    while (next < stream->packets && stream->packet[next].packet.type > 55)
+        next++;
+    return next;
+}
+
+/* A snapshot: its packets are the next ones in their order, and its bytes theirs, 0 elsewhere. */
+static void take_snapshot(struct drive *drive, struct stream *stream, enum function function,
+                          const struct lpmag_closed_snapshot *closed, const uint8_t *snapshot)
+{
+    uint8_t expected[LPMAG_SNAPSHOT] = {0};
+    struct question question = {
+        function, NULL, 0, {{"snapshot from count", closed->first}, {"held", closed->held}}};
+    uint64_t last = closed->first;
+    stream->snapshots++;
+    for (unsigned mark = 0; mark < 32; mark++) {
+        if ((closed->held >> mark & 1) == 0)
+            continue;
+        size_t next = next_packet(stream);
+        expect_true(drive, function, next < stream->packets, "a snapshot holds packets that were kept, mark",
+                    mark);
+        struct held_packet *held = &stream->packet[next];
+        uint64_t count = full_count_of(stream, held->sent);
+        expect_answer(drive, &question, mark, held->packet.type - 36u);
+        if ((closed->held & (((uint32_t)1 << mark) - 1)) == 0)
+            expect_answer(drive, &question, closed->first, count);
+        memcpy(expected + 82 * mark, held->packet.bytes, 82);
+        held->snapshot = stream->snapshots;
+        stream->packets_out = next + 1;
+        stream->bytes += 82;
+        last = count;
+    }
+    expect_bytes(drive, &question, "the snapshot handed out isn't that of the packets held", snapshot,
+                 expected, sizeof expected);
+    drive->snapshots_of_a_frame += stream->snapshots > 1 && stream->snapshot_first == closed->first;
+    stream->snapshot_first = closed->first;
+    drive->snapshots_across += closed->first / ROUND < last / ROUND;
+    if (ones(closed->held) == PACKETS)
+        drive->snapshots_whole++;
+    else
+        drive->snapshots_part++;
+}
+
 /* A major frame: each slot held is that of a record kept, with its subcom word, and
- * with the range and the samples of a real-time one; all else is 0. */
+ * with the range and the samples of one that has MAG; all else is 0. */
 static void take_major(struct drive *drive, struct stream *stream, enum function function,
                        const struct lpmag_major *major, const int16_t *samples)
 {
@@ -269,7 +403,7 @@ static void take_major(struct drive *drive, struct stream *stream, enum function
         expect_true(drive, function, !held || (sent != NULL && sent->fate == KEPT),
                     "a slot held is that of a record kept, count", count);
 
-        bool mag = held && sent->real_time;
+        bool mag = held && sent->mag;
         const uint8_t *packet = mag ? sent->input.record + LPMAG_PACKET_AT : NULL;
         question.also[1].name = "slot";
         question.also[1].number = slot;
@@ -302,6 +436,15 @@ static void take_closed(struct drive *drive, struct stream *stream, enum functio
     if (closed.accumulation_closed)
         take_accumulation(drive, stream, function, closed.accumulation_first, closed.accumulation_held,
                           room_of_bytes(cells, &cells->first));
+    expect_true(drive, function, closed.first_snapshot.closed || !closed.second_snapshot.closed,
+                "a second snapshot closes only after a first", 0);
+    struct rooms *first = &reader->rooms[FIRST_FINISHED];
+    struct rooms *second = &reader->rooms[SECOND_FINISHED];
+    if (closed.first_snapshot.closed)
+        take_snapshot(drive, stream, function, &closed.first_snapshot, room_of_bytes(first, &first->first));
+    if (closed.second_snapshot.closed)
+        take_snapshot(drive, stream, function, &closed.second_snapshot,
+                      room_of_bytes(second, &second->first));
 }
 
 /* ---- the run ---------------------------------------------------------- */
@@ -443,12 +586,54 @@ static void run_fed(struct drive *drive, struct stream *stream, struct reader *r
         expect_last(drive, FEED, stream, reader, last_kept(stream));
 }
 
+/* 02, request 2, of two neighbouring packets of 36 to 55 that were kept, said of what was sent: the type
+ * rises, every count between the two frames was kept, no burst packet after the one, up to and with the
+ * other, has bit 6; and finish wasn't called between. */
+static bool stand_together(const struct stream *stream, size_t one, size_t other)
+{
+    const struct held_packet *packets = stream->packet;
+    if (packets[other].packet.type <= packets[one].packet.type)
+        return false;
+    for (size_t i = one + 1; i <= other; i++)
+        if (packets[i].packet.bit_6)
+            return false;
+    for (const struct sent *sent = packets[one].sent; sent < packets[other].sent; sent++)
+        if (sent->fate != KEPT || sent->finished || (sent + 1)->lost_before > 0)
+            return false;
+    return true;
+}
+
+/* Every packet of 36 to 55 that was kept is handed out once, in one snapshot with its neighbour exactly
+ * where the two stand together. */
+static void expect_all_packets(struct drive *drive, const struct stream *stream)
+{
+    size_t packets = 0;
+    size_t last = NONE;
+    for (size_t i = 0; i < stream->packets; i++) {
+        const struct held_packet *held = &stream->packet[i];
+        bool of_snapshot = held->packet.type <= 55;
+        expect_true(drive, STEP, (held->snapshot != 0) == of_snapshot,
+                    "a packet kept is in one snapshot, the", i);
+        if (!of_snapshot)
+            continue;
+        if (packets > 0)
+            expect_true(drive, STEP,
+                        (stream->packet[last].snapshot == held->snapshot) == stand_together(stream, last, i),
+                        "two packets stand in one snapshot exactly where the rule says, before packet", i);
+        last = i;
+        packets++;
+    }
+    expect_true(drive, STEP, stream->bytes == 82 * packets, "bytes of snapshots filled", stream->bytes);
+    drive->sent_packets += packets;
+}
+
 /* Every record kept is handed out once. An accumulation is torn only where 36
  * counts or more weren't accepted, or finish was called. */
 static void expect_all_handed_out(struct drive *drive, struct stream *stream)
 {
     size_t kept = 0;
     size_t real_time = 0;
+    size_t with_mag = 0;
     const struct sent *last = NULL; /* record kept */
     for (size_t i = 0; i < stream->length; i++) {
         const struct sent *sent = &stream->sent[i];
@@ -458,6 +643,7 @@ static void expect_all_handed_out(struct drive *drive, struct stream *stream)
                     "a real-time record kept is in one accumulation, the", i);
         kept += is_kept;
         real_time += is_kept && sent->real_time;
+        with_mag += is_kept && sent->mag;
         drive->sent_farthest += is_kept && last != NULL && sent->at - last->at == AHEAD;
         last = is_kept ? sent : last;
 
@@ -470,10 +656,12 @@ static void expect_all_handed_out(struct drive *drive, struct stream *stream)
         }
     }
     expect_true(drive, STEP, stream->cells == 83 * real_time, "cells filled", stream->cells);
-    expect_true(drive, STEP, stream->samples == 54 * real_time, "samples filled", stream->samples);
+    expect_true(drive, STEP, stream->samples == 54 * with_mag, "samples filled", stream->samples);
     expect_true(drive, STEP, stream->slots == kept, "slots held", stream->slots);
+    expect_all_packets(drive, stream);
     drive->sent_kept += kept;
     drive->sent_real_time += real_time;
+    drive->sent_with_mag += with_mag;
 }
 
 enum run { STEPPED, FED };
@@ -485,12 +673,14 @@ static void compare_sent(struct drive *drive, enum run how, uint32_t others, str
     static struct reader reader;
     struct random *random = &drive->random;
     stream.accumulations = stream.cells = stream.slots = stream.samples = 0;
+    stream.snapshots = stream.packets_out = stream.bytes = 0;
     make_sent(random, &stream, others);
     lose(random, &stream, losses, spoiled);
     if (random_once_in(random, 4))
         lose_beginning(random, &stream);
     lose_far(random, &stream, random_once_in(random, 2) ? NEVER : 300);
     number_sent(random, &stream);
+    list_packets(&stream);
     begin_counts(drive, &stream);
     for (size_t i = 0; i < stream.length; i++)
         stream.sent[i].finished = once_in(random, finish_once_in);

@@ -20,18 +20,34 @@ static uint8_t expected_finish(const struct lpmag_state *state)
 
 /* Steps from the state with a good record, or is fed it, in buffers full of dirt; then
  * finishes. */
-static void compare_next(struct drive *drive, const struct lpmag_state *state, uint64_t count, uint8_t type)
+static void compare_next_input(struct drive *drive, const struct lpmag_state *state, uint64_t count,
+                               const struct input *input)
 {
     static struct reader reader;
-    struct input input;
     reader_make(&drive->random, &reader, state);
-    input_make(&drive->random, &input, count, type);
     if (random_once_in(&drive->random, 8))
-        compare_feed_of(drive, &reader, &input, expected_step(state, count));
+        compare_feed_of(drive, &reader, input, expected_step(state, count));
     else
-        compare_step(drive, &reader, &input, expected_step(state, count));
+        compare_step(drive, &reader, input, expected_step(state, count));
     if (random_once_in(&drive->random, 2))
         compare_finish(drive, &reader, expected_finish(&reader.state));
+}
+
+static void compare_next(struct drive *drive, const struct lpmag_state *state, uint64_t count, uint8_t type)
+{
+    struct input input;
+    input_make(&drive->random, &input, count, type);
+    compare_next_input(drive, state, count, &input);
+}
+
+/* A half or full burst, mostly with the packets that come next in the snapshot. */
+static void compare_next_burst(struct drive *drive, const struct lpmag_state *state, uint64_t count)
+{
+    struct input input;
+    uint8_t code, second_code;
+    stream_burst(&drive->random, state->snapshot.last_type, &code, &second_code);
+    input_make_coded(&drive->random, &input, count, code, second_code);
+    compare_next_input(drive, state, count, &input);
 }
 
 /* ---- states that keep the list ---------------------------------------- */
@@ -90,6 +106,9 @@ static void compare_passing(struct drive *drive, bool accumulation, bool major)
                      (uint8_t)random_between(random, 0, state.accumulation.last_type));
         compare_next(drive, &state, next_count(&state, state.last + random_below(random, 20)),
                      other_type(random));
+        compare_next_burst(drive, &state, state.last + 1);
+        compare_next_burst(drive, &state, state.last + 1);
+        compare_next_burst(drive, &state, next_count(&state, state.last + random_below(random, 4)));
     }
     compare_next(drive, &state, stream_late(random, state.last), any_type(random));
     compare_jumps(drive, &state);

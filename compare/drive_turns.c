@@ -88,6 +88,8 @@ static void expect_full(struct drive *drive, struct reader *reader, enum functio
     expect_answer(drive, &question, closed.major.number, full / 16);
     if (closed.accumulation_closed)
         expect_answer(drive, &question, closed.accumulation_first, full);
+    if (closed.first_snapshot.closed)
+        expect_answer(drive, &question, closed.first_snapshot.first, full);
     expect_answer(drive, &question, reader->state.last, full);
 }
 

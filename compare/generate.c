@@ -12,6 +12,7 @@ enum {
     SPARE = 9,
     CODE = 286,
     SUBCOM = 287,
+    SECOND_CODE = 286 + 85, /* 000 section 2.1.3 */
     DAY = 456,
     MILLISECOND = 458,
     LEVEL = 462,
@@ -71,9 +72,21 @@ static uint32_t reading(struct random *random)
     }
 }
 
-struct content generate_content(struct random *random)
+/* Any top bits. */
+static uint8_t any_code(struct random *random, uint8_t type)
 {
-    struct content content;
+    return (uint8_t)(random_below(random, 4) << 6 | type);
+}
+
+static uint8_t any_burst_code(struct random *random)
+{
+    return any_code(random, burst_type(random_below(random, BURST_TYPES)));
+}
+
+/* All but the second type byte, which is 0. */
+static struct content any_content(struct random *random)
+{
+    struct content content = {0};
     content.count = often_an_end(random, 0, LAST_COUNT);
     content.day = (uint16_t)often_an_end(random, 1, LAST_DAY);
     content.millisecond = often_an_end(random, 0, LAST_MILLISECOND);
@@ -84,7 +97,7 @@ struct content generate_content(struct random *random)
     uint32_t type = random_below(random, 60);
     if (type > 57)
         type += 4;
-    content.code = (uint8_t)(random_below(random, 4) << 6 | type);
+    content.code = any_code(random, (uint8_t)type);
 
     content.subcom = (uint16_t)random_next(random);
     content.level = reading(random);
@@ -92,11 +105,35 @@ struct content generate_content(struct random *random)
     return content;
 }
 
+/* Any second type byte that a full burst can have. */
+static void complete(struct random *random, struct content *content)
+{
+    if (is_full_burst(content->code))
+        content->second_code = any_burst_code(random);
+}
+
+struct content generate_content(struct random *random)
+{
+    struct content content = any_content(random);
+    complete(random, &content);
+    return content;
+}
+
 struct content generate_content_of(struct random *random, uint32_t count, uint8_t type)
 {
-    struct content content = generate_content(random);
+    struct content content = any_content(random);
     content.count = count;
-    content.code = (uint8_t)(random_below(random, 4) << 6 | type);
+    content.code = any_code(random, type);
+    complete(random, &content);
+    return content;
+}
+
+struct content generate_content_with(struct random *random, uint32_t count, uint8_t code, uint8_t second_code)
+{
+    struct content content = any_content(random);
+    content.count = count;
+    content.code = code;
+    content.second_code = second_code;
     return content;
 }
 
@@ -104,6 +141,21 @@ uint8_t other_type(struct random *random)
 {
     uint8_t type = (uint8_t)random_between(random, 36, 59);
     return type <= 57 ? type : (uint8_t)(type + 4);
+}
+
+uint8_t burst_type(uint32_t which)
+{
+    return (uint8_t)(which == BURST_TYPES - 1 ? 62 : 36 + which);
+}
+
+bool is_burst_type(uint8_t type)
+{
+    return type >= 36 && type <= 62 && (type <= 57 || type == 62);
+}
+
+bool is_full_burst(uint8_t code)
+{
+    return code >= TOP_BIT && is_burst_type(code % 64);
 }
 
 void generate_record(struct random *random, const struct content *content, uint8_t *record)
@@ -124,6 +176,8 @@ void generate_record(struct random *random, const struct content *content, uint8
     put(record, COUNT, 3, content->count);
     put(record, SPARE, 1, 0);
     put(record, CODE, 1, content->code);
+    if (is_full_burst(content->code))
+        put(record, SECOND_CODE, 1, content->second_code);
     put(record, SUBCOM, 2, content->subcom);
     put(record, DAY, 2, content->day);
     put(record, MILLISECOND, 4, content->millisecond);
@@ -143,6 +197,9 @@ void generate_set_count(uint8_t *record, uint32_t count)
  * and all before it, two records. */
 static const size_t wrong_lengths[] = {0, 1, 3, 10, 216, 286, 454, 471, 473, 728, 944, GENERATE_LONGEST};
 enum { WRONG_LENGTHS = sizeof wrong_lengths / sizeof wrong_lengths[0] };
+
+/* The types that no burst packet has. */
+enum { NO_BURST_TYPES = 64 - BURST_TYPES };
 
 uint32_t spoil_forms(unsigned rule)
 {
@@ -166,7 +223,7 @@ uint32_t spoil_forms(unsigned rule)
     case 10:
         return 3 * 2 + 3;
     case 11:
-        return 4 * 4;
+        return 4 * 4 + NO_BURST_TYPES;
     default:
         return 0;
     }
@@ -302,9 +359,19 @@ static void spoil_flags(struct random *random, uint8_t *record, uint32_t form)
             set_flag(record, which, random_below(random, 2) * 3);
 }
 
-static void spoil_type(uint8_t *record, uint32_t form)
+/* A type that isn't defined; or a full burst of any type, with each second type that it can't
+ * have, under any top bits. */
+static void spoil_type(struct random *random, uint8_t *record, uint32_t form)
 {
-    record[CODE] = (uint8_t)(form / 4 << 6 | (58 + form % 4));
+    if (form < 4 * 4) {
+        record[CODE] = (uint8_t)(form / 4 << 6 | (58 + form % 4));
+        return;
+    }
+    uint8_t type = 0;
+    for (uint32_t left = form - 4 * 4; left > 0 || is_burst_type(type); type++)
+        left -= !is_burst_type(type);
+    record[CODE] = any_burst_code(random) | TOP_BIT;
+    record[SECOND_CODE] = any_code(random, type);
 }
 
 size_t spoil_form(struct random *random, uint8_t *record, unsigned rule, uint32_t form)
@@ -337,7 +404,7 @@ size_t spoil_form(struct random *random, uint8_t *record, unsigned rule, uint32_
         spoil_flags(random, record, form);
         break;
     case 11:
-        spoil_type(record, form);
+        spoil_type(random, record, form);
         break;
     }
     return GENERATE_RECORD;

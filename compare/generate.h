@@ -5,6 +5,7 @@
 
 #include "random.h"
 
+#include <stdbool.h>
 #include <stddef.h>
 #include <stdint.h>
 
@@ -26,20 +27,35 @@ struct content {
     uint32_t millisecond; /* of the day */
     uint8_t flags[3];     /* two bits each */
     uint8_t code;         /* the frame code: two top bits and the type */
+    uint8_t second_code;  /* of a full burst the type byte of its second packet, else anything */
     uint16_t subcom;
     uint32_t level; /* signal level and quality, the bits of an IEEE single */
     uint32_t quality;
 };
 
-/* Any content that passes rules 2 to 11; and any of one count and type. */
+/* Any content that passes rules 2 to 11; any of one count and type; and of one count and two type
+ * bytes, of which only a full burst has the second. */
 struct content generate_content(struct random *random);
 struct content generate_content_of(struct random *random, uint32_t count, uint8_t type);
+struct content generate_content_with(struct random *random, uint32_t count, uint8_t code,
+                                     uint8_t second_code);
 
-/* Any type of an other frame: 36-57, 62, 63. */
+/* Any type of a frame that isn't real-time: 36-57, 62, 63. */
 uint8_t other_type(struct random *random);
 
+/* The types of burst packets, 36-57 and 62, in their order; and whether a type is one of them. */
+enum { BURST_TYPES = 23 };
+uint8_t burst_type(uint32_t which);
+bool is_burst_type(uint8_t type);
+
+/* Whether a frame of that code has two burst packets, the top bit being set (000 section 2.1.3). */
+bool is_full_burst(uint8_t code);
+
+/* The bits of a type byte above the type. */
+enum { BIT_6 = 64, TOP_BIT = 128 };
+
 /* Writes a record of GENERATE_RECORD bytes that passes rules 3 to 6, with that
- * content and any bytes where nothing is opened. */
+ * content and any bytes elsewhere. */
 void generate_record(struct random *random, const struct content *content, uint8_t *record);
 
 /* Gives a record another count. */

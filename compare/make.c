@@ -12,18 +12,19 @@ static const struct {
     const char *name;
     void (*print)(uint64_t seed);
 } streams[] = {
-    {"example", print_example}, {"stream", print_stream}, {"refusals", print_refusals},
-    {"turn", print_turn},       {"any", print_any},       {"repeated", print_repeated},
-    {"spoiled", print_spoiled}, {"random", print_random}, {"climb", print_climb},
+    {"example", print_example},   {"stream", print_stream},   {"refusals", print_refusals},
+    {"turn", print_turn},         {"bursts", print_bursts},   {"any", print_any},
+    {"repeated", print_repeated}, {"spoiled", print_spoiled}, {"random", print_random},
+    {"climb", print_climb},
 };
 enum { STREAMS = sizeof streams / sizeof streams[0] };
 
 static _Noreturn void refuse(void)
 {
-    fail(2, "usage: make example|stream|refusals|turn|any|repeated|spoiled|random|climb [SEED [NUMBER]]; "
-            "make many N [SEED]; make cuts|refused|pairs|joins [SEED [NUMBER [COUNT]]]; make number "
-            "cuts|refused|pairs|joins; make case COUNT; all numbers decimal and below 2^64, a record's "
-            "count below 2^24");
+    fail(2, "usage: make example|stream|refusals|turn|bursts|any|repeated|spoiled|random|climb [SEED "
+            "[NUMBER]]; make many N [SEED]; make cuts|refused|pairs|joins|packets [SEED [NUMBER [COUNT]]]; "
+            "make number cuts|refused|pairs|joins|packets; make case COUNT; all numbers decimal and below "
+            "2^64, a record's count below 2^24");
 }
 
 /* The number at a place among the arguments; if they end before it, the one given. */

@@ -23,6 +23,7 @@ struct sending {
     struct random random;
     uint32_t count;                /* of the next record */
     uint8_t type;                  /* of the next real-time frame */
+    uint8_t packet;                /* the type of the last burst packet that send_any_burst sent */
     uint8_t last[GENERATE_RECORD]; /* the last one printed; at first one of an earlier count */
     uint32_t last_count;
 };
@@ -35,6 +36,17 @@ void send_frames(struct sending *sending, uint32_t frames);
 void send_others(struct sending *sending, uint32_t frames);
 void lose_frames(struct sending *sending, uint32_t frames);
 void lose_others(struct sending *sending, uint32_t frames);
+
+/* A frame of that code, with that second one if it is a full burst; memory dumps; half bursts with
+ * one packet after the other of the types from `first` to `last`, and full bursts with two a
+ * frame. */
+void send_code(struct sending *sending, uint8_t code, uint8_t second_code);
+void send_dumps(struct sending *sending, uint32_t frames);
+void send_half_bursts(struct sending *sending, uint8_t first, uint8_t last);
+void send_full_bursts(struct sending *sending, uint8_t first, uint8_t last);
+
+/* A half or full burst, mostly with the packets that come next in a snapshot. */
+void send_any_burst(struct sending *sending);
 
 /* The frame of a letter of a stream written as text: f is a real-time frame, o an
  * other frame; F and O are the same, lost. */
@@ -51,10 +63,11 @@ enum { FIRST_BROKEN = 3, LATE = 12, BROKEN = LATE - FIRST_BROKEN + 1 };
 uint32_t forms_of(unsigned rule);
 
 /* Prints a record that might be sent next but breaks one rule, or two at once, or has that
- * count. It is not sent: the next one has the same count. */
+ * count or those codes. It is not sent: the next one has the same count. */
 void print_refused(struct sending *sending, unsigned rule, uint32_t form);
 void print_refused_twice(struct sending *sending, unsigned rule, unsigned also);
 void print_of_count(struct sending *sending, uint32_t count);
+void print_of_code(struct sending *sending, uint8_t code, uint8_t second_code);
 
 /* ---- what is written -------------------------------------------------- */
 
@@ -78,6 +91,7 @@ void print_example(uint64_t seed);
 void print_stream(uint64_t seed);
 void print_refusals(uint64_t seed);
 void print_turn(uint64_t seed);
+void print_bursts(uint64_t seed);
 void print_many(uint64_t seed, uint64_t records);
 
 /* Streams of which a seed makes one. */

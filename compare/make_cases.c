@@ -181,6 +181,57 @@ static void print_join(struct sending *sending, uint32_t which)
     send_frames(sending, 1);
 }
 
+/* ---- burst packets ---------------------------------------------------- */
+
+/* Every two types of burst packets after one that opens a snapshot: in one frame, with bit 6 and the
+ * top bit of either's type byte clear and set; and in two, half bursts or full ones, with something
+ * between them, bit 6 of the second clear or set. */
+enum { NOTHING, MISSING, REAL_TIME, DUMP, MARKER, NEW_BURST, BETWEEN };
+enum { IN_ONE = 2 * 2 * 2, IN_HALVES = 2 * BETWEEN, IN_FULL = BETWEEN };
+enum { BURST_WAYS = IN_ONE + IN_HALVES + IN_FULL };
+
+static uint32_t packets(void)
+{
+    return BURST_TYPES * BURST_TYPES * BURST_WAYS;
+}
+
+static void send_between(struct sending *sending, uint32_t between)
+{
+    if (between == MISSING)
+        lose_others(sending, 1);
+    else if (between == REAL_TIME)
+        send_frames(sending, 1);
+    else if (between == DUMP)
+        send_dumps(sending, 1);
+    else if (between != NOTHING)
+        send_code(sending, between == NEW_BURST ? BIT_6 | 57 : 57, 0);
+}
+
+/* Fill stands beside a packet that has a full burst for itself. */
+static void print_packets(struct sending *sending, uint32_t which)
+{
+    enum { FILL = 62 };
+    uint8_t one = burst_type(which / BURST_WAYS / BURST_TYPES);
+    uint8_t other = burst_type(which / BURST_WAYS % BURST_TYPES);
+    uint32_t way = which % BURST_WAYS;
+
+    send_frames(sending, 1);
+    send_code(sending, 38, 0);
+    if (way < IN_ONE) {
+        uint8_t bits = way % 2 == 0 ? TOP_BIT : TOP_BIT | BIT_6;
+        send_code(sending, bits | one, (uint8_t)(way / 2 << 6) | other);
+    } else if (way < IN_ONE + IN_HALVES) {
+        way -= IN_ONE;
+        send_code(sending, one, 0);
+        send_between(sending, way / 2);
+        send_code(sending, way % 2 == 0 ? other : BIT_6 | other, 0);
+    } else {
+        send_code(sending, TOP_BIT | FILL, one);
+        send_between(sending, way - IN_ONE - IN_HALVES);
+        send_code(sending, TOP_BIT | other, FILL);
+    }
+}
+
 /* ---- cases ------------------------------------------------------------ */
 
 /* No case takes 200 counts, so that 1,000 lie between two. An odd number, so that a
@@ -192,6 +243,7 @@ static const struct cases kinds[] = {
     {"refused", refused, print_refused_among},
     {"pairs", pairs, print_pair},
     {"joins", joins, print_join},
+    {"packets", packets, print_packets},
 };
 enum { KINDS = sizeof kinds / sizeof kinds[0] };
 

@@ -20,11 +20,18 @@ void print_stream(uint64_t seed)
     struct sending sending;
     sending_begin(&sending, seed, 7325805, 0);
 
-    /* Two whole ones; in the second come so many other frames that it would be torn if
-     * they were taken for lost. */
+    /* Two whole ones; in the second comes the playback of a burst, so many frames that it would
+     * be torn if they were taken for lost: a marker with bit 6, a whole snapshot with a marker and
+     * fill without it inside, a second of MAG and the start of another snapshot, which the end of
+     * the file closes. */
     send_frames(&sending, 36);
     send_frames(&sending, 20);
-    send_others(&sending, 36);
+    send_code(&sending, BIT_6 | 57, 0);
+    send_half_bursts(&sending, 36, 53);
+    send_code(&sending, 57, 0);
+    send_code(&sending, 62, 0);
+    send_half_bursts(&sending, 54, 56);
+    send_half_bursts(&sending, 36, 47);
     send_frames(&sending, 16);
 
     /* Dropouts shorter than 36: inside an accumulation, whose frames join; and from one
@@ -41,14 +48,14 @@ void print_stream(uint64_t seed)
     lose_frames(&sending, 62);
     send_frames(&sending, 2);
 
-    /* A torn one: 36 other frames were lost between two of its frames. */
+    /* A torn one: 36 frames without science were lost between two of its frames. */
     send_frames(&sending, 5);
     lose_others(&sending, 36);
     send_frames(&sending, 3);
 
-    /* Other frames alone in a major frame, and frames that the end of the file closes. */
+    /* Memory dumps alone in a major frame, and frames that the end of the file closes. */
     lose_frames(&sending, 30);
-    send_others(&sending, 2);
+    send_dumps(&sending, 2);
     lose_frames(&sending, 60);
     send_frames(&sending, 2);
 }
@@ -72,7 +79,7 @@ void print_refusals(uint64_t seed)
             lose_frames(&sending, 1);
         send_frames(&sending, 1);
         if (round % 4 == 0)
-            send_others(&sending, 1);
+            send_dumps(&sending, 1);
         if (round % BROKEN == BROKEN - 1)
             lose_frames(&sending, 40);
     }
@@ -95,7 +102,7 @@ void print_turn(uint64_t seed)
      * last count; then a record that was delayed. */
     send_frames(&sending, 9);
     send_frames(&sending, 8);
-    send_others(&sending, 1);
+    send_dumps(&sending, 1);
     send_frames(&sending, 3);
     print_of_count(&sending, 16777213);
 
@@ -104,7 +111,7 @@ void print_turn(uint64_t seed)
     send_frames(&sending, 1);
     print_of_count(&sending, 16777214);
     send_frames(&sending, 10);
-    send_others(&sending, 1);
+    send_dumps(&sending, 1);
     send_frames(&sending, 14);
     send_frames(&sending, 6);
 
@@ -121,6 +128,81 @@ void print_turn(uint64_t seed)
     send_frames(&sending, 4);
 }
 
+/* Bursts (02, request 2): snapshots whole, and cut in each of the ways. */
+void print_bursts(uint64_t seed)
+{
+    struct sending sending;
+    sending_begin(&sending, seed, 8000000, 30);
+
+    /* Triggered playback: half bursts among real-time frames. A marker with bit 6 begins it; then
+     * a whole snapshot, with real-time frames of two accumulations and a memory dump in it, and a
+     * second of MAG, whose bit 6 is clear. */
+    send_frames(&sending, 4);
+    send_code(&sending, BIT_6 | 57, 0);
+    send_half_bursts(&sending, 36, 40);
+    send_frames(&sending, 3);
+    send_half_bursts(&sending, 41, 52);
+    send_dumps(&sending, 1);
+    send_frames(&sending, 1);
+    send_half_bursts(&sending, 53, 56);
+
+    /* A marker without bit 6 and fill cut nothing; bit 6 of a second of MAG does, though there it
+     * is a timing bit (000 section 2.2). */
+    send_half_bursts(&sending, 36, 41);
+    send_code(&sending, 57, 0);
+    send_half_bursts(&sending, 42, 45);
+    send_code(&sending, 62, 0);
+    send_half_bursts(&sending, 46, 48);
+    send_code(&sending, BIT_6 | 56, 0);
+    send_half_bursts(&sending, 49, 55);
+
+    /* A torn one: the count of type 43 is missing. */
+    send_frames(&sending, 2);
+    send_half_bursts(&sending, 36, 42);
+    lose_others(&sending, 1);
+    send_half_bursts(&sending, 44, 47);
+
+    /* A marker whose bit 6 begins another burst, which goes on with a higher type. */
+    send_code(&sending, BIT_6 | 57, 0);
+    send_half_bursts(&sending, 48, 51);
+
+    /* A packet's own bit 6. */
+    send_code(&sending, BIT_6 | 52, 0);
+    send_half_bursts(&sending, 53, 55);
+    send_frames(&sending, 2);
+
+    /* Commanded playback: full bursts. The first two have a second of MAG and a marker with bit 6;
+     * then a whole snapshot, and the start of one. */
+    send_code(&sending, TOP_BIT | 56, 56);
+    send_code(&sending, TOP_BIT | BIT_6 | 57, 36);
+    send_full_bursts(&sending, 37, 54);
+    send_code(&sending, TOP_BIT | 55, 56);
+    send_full_bursts(&sending, 36, 49);
+
+    /* A frame that closes two: 40 isn't above 49, nor 39 above 40. */
+    send_code(&sending, TOP_BIT | 40, 39);
+    send_full_bursts(&sending, 40, 43);
+
+    /* Bit 6 of the second of two packets, and of the first. */
+    send_code(&sending, TOP_BIT | 44, BIT_6 | 45);
+    send_code(&sending, TOP_BIT | BIT_6 | 46, 47);
+
+    /* Second types that rule 11 refuses, with the top bits set and clear: instead of a frame that
+     * was sent, so that its count is missing; and beside one, so that none is. */
+    print_of_code(&sending, TOP_BIT | 48, 63);
+    lose_others(&sending, 1);
+    send_full_bursts(&sending, 50, 51);
+    print_of_code(&sending, TOP_BIT | 52, TOP_BIT | BIT_6 | 35);
+    print_of_code(&sending, TOP_BIT | 62, 58);
+    send_full_bursts(&sending, 52, 53);
+
+    /* The end of the file closes a snapshot, of which two packets are missing, and what else is
+     * open. */
+    send_code(&sending, 36, 0);
+    send_code(&sending, 39, 0);
+    send_frames(&sending, 2);
+}
+
 /* Counts from 1, types from 0. */
 void print_many(uint64_t seed, uint64_t records)
 {
@@ -130,7 +212,7 @@ void print_many(uint64_t seed, uint64_t records)
         if (random_once_in(&sending.random, 200))
             lose_frames(&sending, random_between(&sending.random, 1, 100));
         if (random_once_in(&sending.random, 40))
-            send_others(&sending, 1);
+            send_dumps(&sending, 1);
         else
             send_frames(&sending, 1);
     }

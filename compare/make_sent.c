@@ -13,6 +13,12 @@ static void make_record(struct sending *sending, uint8_t type, uint8_t *record)
     generate_record(&sending->random, &content, record);
 }
 
+static void make_coded(struct sending *sending, uint8_t code, uint8_t second_code, uint8_t *record)
+{
+    struct content content = generate_content_with(&sending->random, sending->count, code, second_code);
+    generate_record(&sending->random, &content, record);
+}
+
 static void skip(struct sending *sending, uint32_t counts)
 {
     sending->count = (sending->count + counts) % COUNTS;
@@ -27,12 +33,24 @@ void sending_begin(struct sending *sending, uint64_t seed, uint32_t count, uint8
     sending->count = count;
 }
 
-static void send(struct sending *sending, uint8_t type)
+/* The record that was made. */
+static void send_last(struct sending *sending)
 {
-    make_record(sending, type, sending->last);
     print_bytes(sending->last, GENERATE_RECORD);
     sending->last_count = sending->count;
     skip(sending, 1);
+}
+
+static void send(struct sending *sending, uint8_t type)
+{
+    make_record(sending, type, sending->last);
+    send_last(sending);
+}
+
+void send_code(struct sending *sending, uint8_t code, uint8_t second_code)
+{
+    make_coded(sending, code, second_code, sending->last);
+    send_last(sending);
 }
 
 void send_frames(struct sending *sending, uint32_t frames)
@@ -47,6 +65,45 @@ void send_others(struct sending *sending, uint32_t frames)
 {
     for (; frames > 0; frames--)
         send(sending, other_type(&sending->random));
+}
+
+/* "The 2 MSB of the Frame Code are set to 11" (000 section 2.1.4). */
+void send_dumps(struct sending *sending, uint32_t frames)
+{
+    for (; frames > 0; frames--)
+        send_code(sending, TOP_BIT | BIT_6 | 63, 0);
+}
+
+void send_half_bursts(struct sending *sending, uint8_t first, uint8_t last)
+{
+    for (uint8_t type = first; type <= last; type++)
+        send_code(sending, type, 0);
+}
+
+void send_full_bursts(struct sending *sending, uint8_t first, uint8_t last)
+{
+    for (uint8_t type = first; type < last; type += 2)
+        send_code(sending, TOP_BIT | type, (uint8_t)(type + 1));
+}
+
+/* After 55 come a MAG packet, a marker or the next snapshot. */
+static uint8_t next_packet(struct sending *sending)
+{
+    struct random *random = &sending->random;
+    uint8_t next = sending->packet < 36 || sending->packet > 54 ? 36 : (uint8_t)(sending->packet + 1);
+    uint8_t type = random_once_in(random, 8) ? burst_type(random_below(random, BURST_TYPES)) : next;
+    if (type <= 55)
+        sending->packet = type;
+    return random_once_in(random, 16) ? type | BIT_6 : type;
+}
+
+void send_any_burst(struct sending *sending)
+{
+    uint8_t code = next_packet(sending);
+    if (random_once_in(&sending->random, 2))
+        send_code(sending, code, 0);
+    else
+        send_code(sending, TOP_BIT | code, next_packet(sending));
 }
 
 void lose_frames(struct sending *sending, uint32_t frames)
@@ -130,6 +187,13 @@ void print_of_count(struct sending *sending, uint32_t count)
     uint8_t record[GENERATE_RECORD];
     make_record(sending, sending->type, record);
     generate_set_count(record, count);
+    print_bytes(record, GENERATE_RECORD);
+}
+
+void print_of_code(struct sending *sending, uint8_t code, uint8_t second_code)
+{
+    uint8_t record[GENERATE_RECORD];
+    make_coded(sending, code, second_code, record);
     print_bytes(record, GENERATE_RECORD);
 }
 

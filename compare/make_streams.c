@@ -23,8 +23,10 @@ static void send_any(struct sending *sending)
 {
     if (random_once_in(&sending->random, 8))
         sending->type = (uint8_t)random_below(&sending->random, TYPES);
-    if (random_once_in(&sending->random, 6))
+    if (random_once_in(&sending->random, 10))
         send_others(sending, 1);
+    else if (random_once_in(&sending->random, 3))
+        send_any_burst(sending);
     else
         send_frames(sending, 1);
 }

@@ -40,6 +40,20 @@ static void print_reading(uint8_t finite, uint32_t bits)
     print_hex(bytes, sizeof bytes);
 }
 
+static const char *kind_name(uint8_t kind)
+{
+    switch (kind) {
+    case LPMAG_HALF_BURST:
+        return " half-burst";
+    case LPMAG_FULL_BURST:
+        return " full-burst";
+    case LPMAG_OTHER:
+        return " other";
+    default:
+        return " real-time";
+    }
+}
+
 static void print_fields(const struct lpmag_fields *fields)
 {
     print_column(fields->count);
@@ -50,7 +64,8 @@ static void print_fields(const struct lpmag_fields *fields)
     print_number(fields->third_flag);
     print_column(fields->frame_code);
     print_column(fields->frame_type);
-    print_text(fields->kind == LPMAG_OTHER ? " other" : " real-time");
+    print_text(kind_name(fields->kind));
+    print_column(fields->second_code);
     print_column(fields->subcom);
     print_reading(fields->level_finite, fields->level);
     print_reading(fields->quality_finite, fields->quality);
@@ -61,7 +76,7 @@ static void print_listing(void)
     uint8_t record[SECOND_RECORD];
     struct lpmag_fields fields = {0};
     size_t length;
-    print_text("record answer count day millisecond flags code type kind subcom level quality\n");
+    print_text("record answer count day millisecond flags code type kind second subcom level quality\n");
     for (uint64_t number = 0; (length = read_all(record, sizeof record)) > 0; number++) {
         print_number(number);
         uint8_t refusal = second_fields(&fields, record, length);

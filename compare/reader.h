@@ -21,7 +21,7 @@ enum { SLOTS = 16 };
 unsigned ones(uint64_t marks);
 unsigned highest(uint64_t marks); /* of marks that aren't 0 */
 
-/* The clauses that a state breaks, bit by bit. Two of them are about a count that
+/* The clauses that a state breaks, bit by bit. Three of them are about a count that
  * another one bounds, and are never broken alone. */
 uint32_t clauses_broken(const struct lpmag_state *state);
 
@@ -40,8 +40,24 @@ struct input {
     size_t length;
 };
 
-/* A record that passes rules 2 to 11. Its own count is that of the full one given. */
+/* A record that passes rules 2 to 11, of a type or of two type bytes. Its own count is that of the
+ * full one given. */
 void input_make(struct random *random, struct input *input, uint64_t count, uint8_t type);
+void input_make_coded(struct random *random, struct input *input, uint64_t count, uint8_t code,
+                      uint8_t second_code);
+
+/* The burst packets of a record that passes, by its content: one of a half burst, two of a full
+ * one. */
+struct packet {
+    uint8_t type;
+    bool bit_6;
+    const uint8_t *bytes;
+};
+enum { MOST_PACKETS = 2 };
+size_t input_packets(const struct input *input, struct packet *packets);
+
+/* Whether it has MAG of its own: a real-time frame or a half burst. */
+bool input_has_mag(const struct input *input);
 
 /* Breaks a rule from 2 to 11. */
 void input_spoil(struct random *random, struct input *input, unsigned rule);
@@ -67,6 +83,9 @@ void row_end(struct random *random, struct row *row, size_t tail);
  * less than a record or about one. */
 size_t row_left(const struct row *row, size_t from);
 size_t row_part(struct random *random, const struct row *row, size_t from);
+
+/* Whether anything was closed. */
+bool closes(const struct lpmag_closed *closed);
 
 /* MAG number k of the MAG bytes (000 section 2.2). */
 int16_t mag_number(const uint8_t *mag, size_t k);
@@ -110,6 +129,9 @@ void compare_finish(struct drive *drive, struct reader *reader, uint8_t expected
  * closes something; where rule 1 is broken, the answer 1. Answers the records taken. */
 size_t compare_feed(struct drive *drive, struct reader *reader, const struct row *row, size_t from,
                     size_t length);
+
+/* Feeds one record that is accepted, and nothing else. */
+void compare_fed_whole(struct drive *drive, struct reader *reader, const struct input *input);
 
 /* Feeds one record with a part of another after it, or only a part of it. */
 void compare_feed_of(struct drive *drive, struct reader *reader, const struct input *input, uint8_t answer);

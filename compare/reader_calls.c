@@ -25,16 +25,22 @@ static struct question ask(struct drive *drive, struct reader *reader, enum func
                              {{"bytes of open cells", reader->rooms[OPEN_CELLS].length},
                               {"bytes of finished cells", reader->rooms[FINISHED_CELLS].length},
                               {"open samples", numbers(reader, OPEN_SAMPLES)},
-                              {"finished samples", numbers(reader, FINISHED_SAMPLES)}}};
+                              {"finished samples", numbers(reader, FINISHED_SAMPLES)},
+                              {"bytes of the open snapshot", reader->rooms[OPEN_SNAPSHOT].length},
+                              {"bytes of the first finished one", reader->rooms[FIRST_FINISHED].length},
+                              {"bytes of the second finished one", reader->rooms[SECOND_FINISHED].length}}};
 }
 
 /* One of the two implementations, with its rooms. */
 typedef uint8_t step(struct lpmag_state *, struct lpmag_report *, uint8_t *, size_t, uint8_t *, size_t,
-                     int16_t *, size_t, int16_t *, size_t, const uint8_t *, size_t);
+                     int16_t *, size_t, int16_t *, size_t, uint8_t *, size_t, uint8_t *, size_t, uint8_t *,
+                     size_t, const uint8_t *, size_t);
 typedef uint8_t feed(struct lpmag_state *, struct lpmag_fed *, uint8_t *, size_t, uint8_t *, size_t,
-                     int16_t *, size_t, int16_t *, size_t, const uint8_t *, size_t);
+                     int16_t *, size_t, int16_t *, size_t, uint8_t *, size_t, uint8_t *, size_t, uint8_t *,
+                     size_t, const uint8_t *, size_t);
 typedef uint8_t finish(struct lpmag_state *, struct lpmag_closed *, uint8_t *, size_t, uint8_t *, size_t,
-                       int16_t *, size_t, int16_t *, size_t);
+                       int16_t *, size_t, int16_t *, size_t, uint8_t *, size_t, uint8_t *, size_t, uint8_t *,
+                       size_t);
 enum whose { FIRSTS, SECONDS };
 
 static union lent *lent_to(struct rooms *rooms, enum whose whose)
@@ -64,7 +70,10 @@ static uint8_t call_step(step *function, struct reader *reader, enum whose whose
                     bytes_of(reader, OPEN_CELLS, whose), reader->rooms[OPEN_CELLS].length,
                     bytes_of(reader, FINISHED_CELLS, whose), reader->rooms[FINISHED_CELLS].length,
                     numbers_of(reader, OPEN_SAMPLES, whose), numbers(reader, OPEN_SAMPLES),
-                    numbers_of(reader, FINISHED_SAMPLES, whose), numbers(reader, FINISHED_SAMPLES), record,
+                    numbers_of(reader, FINISHED_SAMPLES, whose), numbers(reader, FINISHED_SAMPLES),
+                    bytes_of(reader, OPEN_SNAPSHOT, whose), reader->rooms[OPEN_SNAPSHOT].length,
+                    bytes_of(reader, FIRST_FINISHED, whose), reader->rooms[FIRST_FINISHED].length,
+                    bytes_of(reader, SECOND_FINISHED, whose), reader->rooms[SECOND_FINISHED].length, record,
                     length);
 }
 
@@ -75,7 +84,10 @@ static uint8_t call_feed(feed *function, struct reader *reader, enum whose whose
                     bytes_of(reader, OPEN_CELLS, whose), reader->rooms[OPEN_CELLS].length,
                     bytes_of(reader, FINISHED_CELLS, whose), reader->rooms[FINISHED_CELLS].length,
                     numbers_of(reader, OPEN_SAMPLES, whose), numbers(reader, OPEN_SAMPLES),
-                    numbers_of(reader, FINISHED_SAMPLES, whose), numbers(reader, FINISHED_SAMPLES), bytes,
+                    numbers_of(reader, FINISHED_SAMPLES, whose), numbers(reader, FINISHED_SAMPLES),
+                    bytes_of(reader, OPEN_SNAPSHOT, whose), reader->rooms[OPEN_SNAPSHOT].length,
+                    bytes_of(reader, FIRST_FINISHED, whose), reader->rooms[FIRST_FINISHED].length,
+                    bytes_of(reader, SECOND_FINISHED, whose), reader->rooms[SECOND_FINISHED].length, bytes,
                     length);
 }
 
@@ -85,7 +97,10 @@ static uint8_t call_finish(finish *function, struct reader *reader, enum whose w
                     bytes_of(reader, OPEN_CELLS, whose), reader->rooms[OPEN_CELLS].length,
                     bytes_of(reader, FINISHED_CELLS, whose), reader->rooms[FINISHED_CELLS].length,
                     numbers_of(reader, OPEN_SAMPLES, whose), numbers(reader, OPEN_SAMPLES),
-                    numbers_of(reader, FINISHED_SAMPLES, whose), numbers(reader, FINISHED_SAMPLES));
+                    numbers_of(reader, FINISHED_SAMPLES, whose), numbers(reader, FINISHED_SAMPLES),
+                    bytes_of(reader, OPEN_SNAPSHOT, whose), reader->rooms[OPEN_SNAPSHOT].length,
+                    bytes_of(reader, FIRST_FINISHED, whose), reader->rooms[FIRST_FINISHED].length,
+                    bytes_of(reader, SECOND_FINISHED, whose), reader->rooms[SECOND_FINISHED].length);
 }
 
 /* ---- after a call ----------------------------------------------------- */
@@ -109,6 +124,9 @@ static void expect_rooms(struct drive *drive, const struct question *question, s
         [FINISHED_CELLS] = "the finished cells aren't what they have to be after the call",
         [OPEN_SAMPLES] = "the open samples aren't what they have to be after the call",
         [FINISHED_SAMPLES] = "the finished samples aren't what they have to be after the call",
+        [OPEN_SNAPSHOT] = "the open snapshot isn't what it has to be after the call",
+        [FIRST_FINISHED] = "the first finished snapshot isn't what it has to be after the call",
+        [SECOND_FINISHED] = "the second finished snapshot isn't what it has to be after the call",
         [STATE] = "the state isn't what it has to be after the call",
     };
     for (enum lent_room room = 0; room < TOLD; room++)
@@ -157,6 +175,14 @@ static void count_jump(struct drive *drive, const struct lpmag_state *state, uin
     drive->late_past_turns += answer == 12 && below && state->last / ROUND == 4095;
 }
 
+/* ---- what was closed -------------------------------------------------- */
+
+static void count_closed(struct drive *drive, enum call call, const struct lpmag_closed *closed)
+{
+    unsigned snapshots = closed->first_snapshot.closed + closed->second_snapshot.closed;
+    drive->closed[call][closed->major_closed][closed->accumulation_closed][snapshots]++;
+}
+
 /* ---- step and finish -------------------------------------------------- */
 
 void compare_step(struct drive *drive, struct reader *reader, const struct input *input, uint8_t expected)
@@ -179,7 +205,7 @@ void compare_step(struct drive *drive, struct reader *reader, const struct input
                      &report, sizeof report);
         expect_rooms(drive, &question, reader);
         drive->fates[report.gap]++;
-        drive->closed[BY_STEP][report.closed.major_closed][report.closed.accumulation_closed]++;
+        count_closed(drive, BY_STEP, &report.closed);
     }
     drive->state = NULL;
 }
@@ -199,7 +225,7 @@ void compare_finish(struct drive *drive, struct reader *reader, uint8_t expected
         expect_bytes(drive, &question, "what it closed isn't what it has to be",
                      struct_of(reader, TOLD, FIRSTS), &closed, sizeof closed);
         expect_rooms(drive, &question, reader);
-        drive->closed[BY_FINISH][closed.major_closed][closed.accumulation_closed]++;
+        count_closed(drive, BY_FINISH, &closed);
     }
     drive->state = NULL;
 }
@@ -210,7 +236,10 @@ static bool sizes_right(const struct reader *reader)
 {
     return reader->rooms[OPEN_CELLS].length == LPMAG_CELLS &&
            reader->rooms[FINISHED_CELLS].length == LPMAG_CELLS &&
-           numbers(reader, OPEN_SAMPLES) == LPMAG_FRAME && numbers(reader, FINISHED_SAMPLES) == LPMAG_FRAME;
+           numbers(reader, OPEN_SAMPLES) == LPMAG_FRAME && numbers(reader, FINISHED_SAMPLES) == LPMAG_FRAME &&
+           reader->rooms[OPEN_SNAPSHOT].length == LPMAG_SNAPSHOT &&
+           reader->rooms[FIRST_FINISHED].length == LPMAG_SNAPSHOT &&
+           reader->rooms[SECOND_FINISHED].length == LPMAG_SNAPSHOT;
 }
 
 static enum given given(size_t records)
@@ -247,7 +276,7 @@ static struct lpmag_fed step_through(struct drive *drive, struct reader *reader,
         fed.answer = row->answers[i];
         if (fed.answer == LPMAG_OK)
             fed.closed = reader_report(reader).closed;
-        tells = fed.answer != LPMAG_OK || fed.closed.major_closed || fed.closed.accumulation_closed;
+        tells = fed.answer != LPMAG_OK || closes(&fed.closed);
     }
     return fed;
 }
@@ -268,7 +297,7 @@ static void count_fed(struct drive *drive, const struct lpmag_fed *fed, size_t l
     if (fed->taken > 0)
         drive->fed[fed->answer]++;
     if (fed->taken > 0 && fed->answer == LPMAG_OK)
-        drive->closed[BY_FEED][fed->closed.major_closed][fed->closed.accumulation_closed]++;
+        count_closed(drive, BY_FEED, &fed->closed);
     if (length < sizeof drive->fed_lengths / sizeof drive->fed_lengths[0])
         drive->fed_lengths[length]++;
 }
@@ -307,6 +336,14 @@ size_t compare_feed(struct drive *drive, struct reader *reader, const struct row
     }
     drive->state = NULL;
     return fed.taken / LPMAG_RECORD;
+}
+
+void compare_fed_whole(struct drive *drive, struct reader *reader, const struct input *input)
+{
+    static struct row row;
+    row_clear(&row);
+    row_add(&row, input, LPMAG_OK);
+    compare_feed(drive, reader, &row, 0, LPMAG_RECORD);
 }
 
 void compare_feed_of(struct drive *drive, struct reader *reader, const struct input *input, uint8_t answer)

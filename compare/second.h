@@ -25,6 +25,8 @@
 #define SECOND_MAG 82        /* 000 section 2.2 */
 #define SECOND_MAG_AT 3      /* 000 section 2.1.1 */
 #define SECOND_SAMPLES 54    /* numbers: 18 vectors of x, y, z; 000 section 2.2 */
+#define SECOND_BURST 82      /* 000 section 2.4 */
+#define SECOND_BURST_AT 86   /* a half burst's packet, a full burst's second; 000 sections 2.1.2, 2.1.3 */
 
 /* LPMAG_VERSION. */
 uint32_t second_version(void);
@@ -42,7 +44,7 @@ uint8_t second_check(const uint8_t *record, size_t length);
 uint8_t second_fields(struct lpmag_fields *fields, const uint8_t *record, size_t length);
 uint8_t second_packet(const uint8_t *record, size_t length, uint8_t *room, size_t room_length);
 
-/* The packet: 0 to 35, LPMAG_OTHER or LPMAG_UNDEFINED. */
+/* The packet: 0 to 35, LPMAG_HALF_BURST, LPMAG_FULL_BURST, LPMAG_OTHER or LPMAG_UNDEFINED. */
 uint8_t second_kind(const uint8_t *packet, size_t length);
 
 /* The words of a refusal and a byte of 0, into a room of at least LPMAG_WORDS bytes;

@@ -1,4 +1,4 @@
-/* The second reader's listing: 01, "The listing, whole". */
+/* The second reader's listing: 01, "The listing, whole", and 02's request 2 of snapshots. */
 #include "second_listing.h"
 
 #include "second.h"
@@ -40,13 +40,26 @@ static void print_accumulation(uint64_t first_count, uint64_t held)
     print_line("accum", first_count, frames, SECOND_SCIENCE * frames);
 }
 
-/* "One record may close both; the major frame is reported first." */
+/* "the listing says snap, 82 cells a packet" (02, request 2). */
+static void print_snapshot(const struct lpmag_closed_snapshot *closed)
+{
+    uint64_t packets = 0;
+    for (uint32_t held = closed->held; held != 0; held /= 2)
+        packets += held % 2;
+    if (closed->closed)
+        print_line("snap", closed->first, packets, SECOND_BURST * packets);
+}
+
+/* "One record may close both; the major frame is reported first." Of snapshots a frame "can close
+ * two, reported last". */
 static void print_closed(const struct lpmag_closed *closed)
 {
     if (closed->major_closed)
         print_major(&closed->major);
     if (closed->accumulation_closed)
         print_accumulation(closed->accumulation_first, closed->accumulation_held);
+    print_snapshot(&closed->first_snapshot);
+    print_snapshot(&closed->second_snapshot);
 }
 
 /* ---- what was refused ------------------------------------------------- */
@@ -79,9 +92,11 @@ void second_listing_begin(struct second_listing *listing, bool telling)
 void second_listing_record(struct second_listing *listing, const uint8_t *record, size_t length)
 {
     struct lpmag_report report = {0};
-    uint8_t refusal = second_step(&listing->state, &report, listing->open_cells, SECOND_CELLS,
-                                  listing->finished_cells, SECOND_CELLS, listing->open_samples, SECOND_FRAME,
-                                  listing->finished_samples, SECOND_FRAME, record, length);
+    uint8_t refusal =
+        second_step(&listing->state, &report, listing->open_cells, SECOND_CELLS, listing->finished_cells,
+                    SECOND_CELLS, listing->open_samples, SECOND_FRAME, listing->finished_samples,
+                    SECOND_FRAME, listing->open_snapshot, SECOND_SNAPSHOT, listing->first_snapshot,
+                    SECOND_SNAPSHOT, listing->second_snapshot, SECOND_SNAPSHOT, record, length);
     if (refusal == LPMAG_OK)
         print_closed(&report.closed);
     else if (listing->telling)
@@ -95,7 +110,8 @@ void second_listing_end(struct second_listing *listing)
     struct lpmag_closed closed = {0};
     if (second_finish(&listing->state, &closed, listing->open_cells, SECOND_CELLS, listing->finished_cells,
                       SECOND_CELLS, listing->open_samples, SECOND_FRAME, listing->finished_samples,
-                      SECOND_FRAME) != LPMAG_OK)
+                      SECOND_FRAME, listing->open_snapshot, SECOND_SNAPSHOT, listing->first_snapshot,
+                      SECOND_SNAPSHOT, listing->second_snapshot, SECOND_SNAPSHOT) != LPMAG_OK)
         fail(1, "the second reader refuses its own state");
     print_closed(&closed);
     print_text("refused ");

@@ -5,6 +5,7 @@
 
 #include "second_electrons.h"
 #include "second_reader.h"
+#include "second_snapshot.h"
 
 #include <stdbool.h>
 #include <stddef.h>
@@ -21,6 +22,9 @@ struct second_listing {
     uint8_t finished_cells[SECOND_CELLS];
     int16_t open_samples[SECOND_FRAME];
     int16_t finished_samples[SECOND_FRAME];
+    uint8_t open_snapshot[SECOND_SNAPSHOT];
+    uint8_t first_snapshot[SECOND_SNAPSHOT];
+    uint8_t second_snapshot[SECOND_SNAPSHOT];
 };
 
 /* The first line; then the lines of each record, the last one maybe short; then

@@ -15,17 +15,23 @@
 uint8_t second_step(struct lpmag_state *state, struct lpmag_report *report, uint8_t *open_cells,
                     size_t open_cells_length, uint8_t *finished_cells, size_t finished_cells_length,
                     int16_t *open_samples, size_t open_samples_length, int16_t *finished_samples,
-                    size_t finished_samples_length, const uint8_t *record, size_t length);
+                    size_t finished_samples_length, uint8_t *open_snapshot, size_t open_snapshot_length,
+                    uint8_t *first_snapshot, size_t first_snapshot_length, uint8_t *second_snapshot,
+                    size_t second_snapshot_length, const uint8_t *record, size_t length);
 
 /* LPMAG_OK, or 1; then nothing lent changes. */
 uint8_t second_feed(struct lpmag_state *state, struct lpmag_fed *fed, uint8_t *open_cells,
                     size_t open_cells_length, uint8_t *finished_cells, size_t finished_cells_length,
                     int16_t *open_samples, size_t open_samples_length, int16_t *finished_samples,
-                    size_t finished_samples_length, const uint8_t *bytes, size_t length);
+                    size_t finished_samples_length, uint8_t *open_snapshot, size_t open_snapshot_length,
+                    uint8_t *first_snapshot, size_t first_snapshot_length, uint8_t *second_snapshot,
+                    size_t second_snapshot_length, const uint8_t *bytes, size_t length);
 uint8_t second_finish(struct lpmag_state *state, struct lpmag_closed *closed, uint8_t *open_cells,
                       size_t open_cells_length, uint8_t *finished_cells, size_t finished_cells_length,
                       int16_t *open_samples, size_t open_samples_length, int16_t *finished_samples,
-                      size_t finished_samples_length);
+                      size_t finished_samples_length, uint8_t *open_snapshot, size_t open_snapshot_length,
+                      uint8_t *first_snapshot, size_t first_snapshot_length, uint8_t *second_snapshot,
+                      size_t second_snapshot_length);
 
 /* The questions: LPMAG_OK, LPMAG_NO_SUCH_PLACE or LPMAG_ABSENT; unless LPMAG_OK, the
  * number lent stays as found. */

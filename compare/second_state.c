@@ -1,7 +1,9 @@
 /* The second reader's state: its marks, and rule 1's demands on what was lent, a
- * function for each: the header's on the flag and the spare fields, and each clause of
- * 01's list. */
+ * function for each: the header's on the flags and the spare fields, and each clause of
+ * 01's list and of what 02's request 2 adds to it. */
 #include "second_state.h"
+
+#include "second_snapshot.h"
 
 /* ---- counts ----------------------------------------------------------- */
 
@@ -10,7 +12,7 @@ uint64_t second_full_count(uint64_t turn, uint32_t own_count)
     return turn * SECOND_COUNTS_OF_A_TURN + own_count;
 }
 
-static uint64_t last_accepted(const struct second_state *state)
+uint64_t second_last_accepted(const struct second_state *state)
 {
     return second_full_count(state->turn, state->own_count);
 }
@@ -35,6 +37,11 @@ static uint64_t number_of(const bool *marks, size_t count)
 uint64_t second_lent_held(const struct second_accumulation *accumulation)
 {
     return number_of(accumulation->held, SECOND_FRAME_MARKS);
+}
+
+uint32_t second_lent_packets(const struct second_snapshot *snapshot)
+{
+    return (uint32_t)number_of(snapshot->held, SECOND_PACKET_MARKS);
 }
 
 struct second_major_frame second_read_major(const struct lpmag_major *lent)
@@ -71,27 +78,46 @@ static struct second_accumulation read_accumulation(const struct lpmag_accumulat
     return accumulation;
 }
 
+static struct second_snapshot read_snapshot(const struct lpmag_snapshot *lent)
+{
+    struct second_snapshot snapshot = {
+        .first_count = lent->first, .last_type = lent->last_type, .cut = lent->cut == 1};
+    read_marks(lent->held, snapshot.held, SECOND_PACKET_MARKS);
+    return snapshot;
+}
+
 struct lpmag_state second_lent_state(const struct second_state *state)
 {
     const struct second_accumulation *accumulation = &state->accumulation;
-    return (struct lpmag_state){.last = last_accepted(state),
+    const struct second_snapshot *snapshot = &state->snapshot;
+    return (struct lpmag_state){.last = second_last_accepted(state),
                                 .any = state->accepted ? 1 : 0,
                                 .accumulation = {.first = accumulation->first_count,
                                                  .held = second_lent_held(accumulation),
                                                  .last_count = accumulation->last_count,
                                                  .others = accumulation->others,
                                                  .last_type = accumulation->last_type},
-                                .major = second_lent_major(&state->major)};
+                                .major = second_lent_major(&state->major),
+                                .snapshot = {.first = snapshot->first_count,
+                                             .held = second_lent_packets(snapshot),
+                                             .last_type = snapshot->last_type,
+                                             .cut = snapshot->cut ? 1 : 0}};
 }
 
 /* ---- what is no state ------------------------------------------------- */
 
-/* include/lpmag.h, refusal 1: "a spare field other than 0" */
+/* include/lpmag.h, refusal 1: "a flag byte other than 0 and 1, a spare field other than 0" */
+static bool flags_right(const struct lpmag_state *lent)
+{
+    return lent->any <= 1 && lent->snapshot.cut <= 1;
+}
+
 static bool spares_zero(const struct lpmag_state *lent)
 {
     const struct lpmag_accumulation *accumulation = &lent->accumulation;
     return lent->spare8 == 0 && lent->spare16 == 0 && lent->spare32 == 0 && accumulation->spare8 == 0 &&
-           accumulation->spare16 == 0 && accumulation->spare32 == 0 && lent->major.spare32 == 0;
+           accumulation->spare16 == 0 && accumulation->spare32 == 0 && lent->major.spare32 == 0 &&
+           lent->snapshot.spare16 == 0;
 }
 
 /* ---- 01's list -------------------------------------------------------- */
@@ -114,6 +140,11 @@ size_t second_slots_held(const struct second_major_frame *major)
     return count_marks(major->held, SECOND_SLOTS);
 }
 
+size_t second_packets_held(const struct second_snapshot *snapshot)
+{
+    return count_marks(snapshot->held, SECOND_PACKET_MARKS);
+}
+
 /* One number plus another is at most a third, as plain numbers: the sum itself
  * could leave 64 bits. */
 static bool sum_at_most(uint64_t one, uint64_t other, uint64_t most)
@@ -126,7 +157,8 @@ static bool counts_below(const struct second_state *state)
 {
     return state->turn <= SECOND_LAST_TURN &&
            state->accumulation.first_count / SECOND_COUNTS_OF_A_TURN <= SECOND_LAST_TURN &&
-           state->accumulation.last_count / SECOND_COUNTS_OF_A_TURN <= SECOND_LAST_TURN;
+           state->accumulation.last_count / SECOND_COUNTS_OF_A_TURN <= SECOND_LAST_TURN &&
+           state->snapshot.first_count / SECOND_COUNTS_OF_A_TURN <= SECOND_LAST_TURN;
 }
 
 /* "frames held among 36, the highest being the last type" */
@@ -152,7 +184,8 @@ static bool frames_fit(const struct second_accumulation *open)
  * being the last real-time count */
 static bool others_fit(const struct second_state *state)
 {
-    return sum_at_most(state->accumulation.last_count, state->accumulation.others, last_accepted(state));
+    return sum_at_most(state->accumulation.last_count, state->accumulation.others,
+                       second_last_accepted(state));
 }
 
 /* "MAG slots among the slots" */
@@ -171,8 +204,8 @@ static bool last_slot_right(const struct second_state *state)
     const struct second_major_frame *open = &state->major;
     for (size_t slot = SECOND_SLOTS; slot > 0; slot--)
         if (open->held[slot - 1])
-            return open->number == last_accepted(state) / SECOND_SLOTS &&
-                   slot - 1 == last_accepted(state) % SECOND_SLOTS;
+            return open->number == second_last_accepted(state) / SECOND_SLOTS &&
+                   slot - 1 == second_last_accepted(state) % SECOND_SLOTS;
     return true;
 }
 
@@ -201,6 +234,21 @@ static bool closed_are_zero(const struct second_state *state)
     return second_slots_held(&state->major) != 0 || state->major.number == 0;
 }
 
+/* 02, request 2: "a snapshot open with [...] its highest not the last type or its first count above
+ * the last accepted, or not open with numbers not 0". A mark past type 55 is no packet's. */
+static bool snapshot_right(const struct second_state *state)
+{
+    const struct second_snapshot *snapshot = &state->snapshot;
+    for (size_t mark = SECOND_PACKETS; mark < SECOND_PACKET_MARKS; mark++)
+        if (snapshot->held[mark])
+            return false;
+    for (size_t mark = SECOND_PACKETS; mark > 0; mark--)
+        if (snapshot->held[mark - 1])
+            return snapshot->last_type == SECOND_FIRST_PACKET + mark - 1 &&
+                   snapshot->first_count <= second_last_accepted(state);
+    return snapshot->first_count == 0 && snapshot->last_type == 0 && !snapshot->cut;
+}
+
 /* "Until something is accepted, all is 0." */
 static bool all_zero(const struct lpmag_state *lent)
 {
@@ -211,20 +259,21 @@ static bool all_zero(const struct lpmag_state *lent)
     return true;
 }
 
-/* That an open accumulation holds a frame and an open major frame a slot is what
- * "open" means in the struct. */
+/* That an open accumulation holds a frame, an open major frame a slot and an open snapshot a packet
+ * is what "open" means in the struct. */
 bool second_read_state(const struct lpmag_state *lent, struct second_state *state)
 {
-    if (lent->any > 1 || !spares_zero(lent))
+    if (!flags_right(lent) || !spares_zero(lent))
         return false;
 
     *state = (struct second_state){.accepted = lent->any == 1,
                                    .turn = lent->last / SECOND_COUNTS_OF_A_TURN,
                                    .own_count = (uint32_t)(lent->last % SECOND_COUNTS_OF_A_TURN),
                                    .accumulation = read_accumulation(&lent->accumulation),
-                                   .major = second_read_major(&lent->major)};
+                                   .major = second_read_major(&lent->major),
+                                   .snapshot = read_snapshot(&lent->snapshot)};
     return counts_below(state) && frames_right(&state->accumulation) && frames_fit(&state->accumulation) &&
            others_fit(state) && mag_slots_right(&state->major) && last_slot_right(state) &&
-           ranges_and_words_right(&state->major) && closed_are_zero(state) &&
+           ranges_and_words_right(&state->major) && closed_are_zero(state) && snapshot_right(state) &&
            (state->accepted || all_zero(lent));
 }

@@ -1,4 +1,4 @@
-/* The second reader's state: a mark for each frame and slot, from and to the structs
+/* The second reader's state: a mark for each frame, slot and burst packet, from and to the structs
  * of include/lpmag.h, and what rule 1 asks of it. */
 #ifndef SECOND_STATE_H
 #define SECOND_STATE_H
@@ -9,8 +9,9 @@
 #include <stddef.h>
 #include <stdint.h>
 
-/* The struct has 64 marks for frames, of which 36 can be one. */
-enum { SECOND_TYPES = 36, SECOND_FRAME_MARKS = 64, SECOND_SLOTS = 16 };
+/* The struct has 64 marks for frames, of which 36 can be one, and 32 for burst packets, of which 20
+ * can. */
+enum { SECOND_TYPES = 36, SECOND_FRAME_MARKS = 64, SECOND_SLOTS = 16, SECOND_PACKET_MARKS = 32 };
 
 /* The clock goes round (02, request 1): a record's own count has 24 bits, and turns are 0 to
  * 4,095. Where nothing else is said a count is the full one, turn x 2^24 + own count. */
@@ -34,18 +35,31 @@ struct second_major_frame {
     uint16_t words[SECOND_SLOTS];
 };
 
+/* The snapshot that is open if it holds a packet. */
+struct second_snapshot {
+    uint64_t first_count;
+    bool held[SECOND_PACKET_MARKS]; /* by type less 36 */
+    uint8_t last_type;
+    bool cut; /* since its last packet: a count wasn't accepted, or bit 6 was set in a type byte */
+};
+
 struct second_state {
     bool accepted;      /* something was */
     uint64_t turn;      /* of the last accepted record, */
     uint32_t own_count; /* and its own count */
     struct second_accumulation accumulation;
     struct second_major_frame major;
+    struct second_snapshot snapshot;
 };
 
 uint64_t second_full_count(uint64_t turn, uint32_t own_count);
 
+/* The full count of the last accepted record. */
+uint64_t second_last_accepted(const struct second_state *state);
+
 size_t second_frames_held(const struct second_accumulation *accumulation);
 size_t second_slots_held(const struct second_major_frame *major);
+size_t second_packets_held(const struct second_snapshot *snapshot);
 
 /* Reads what was lent as a state; false when it is none, or breaks the list. */
 bool second_read_state(const struct lpmag_state *lent, struct second_state *state);
@@ -57,5 +71,8 @@ struct lpmag_major second_lent_major(const struct second_major_frame *major);
 
 /* The number that has the bit of weight 2^u for a held type u. */
 uint64_t second_lent_held(const struct second_accumulation *accumulation);
+
+/* The number that has the bit of weight 2^(t - 36) for a held packet of type t. */
+uint32_t second_lent_packets(const struct second_snapshot *snapshot);
 
 #endif

@@ -90,6 +90,31 @@ static void open_major(struct random *random, struct lpmag_state *state)
     }
 }
 
+static uint32_t any_packets(struct random *random)
+{
+    const uint32_t all = ((uint32_t)1 << PACKETS) - 1;
+    uint32_t held = (uint32_t)random_next(random) & all;
+    switch (random_below(random, 4)) {
+    case 0:
+        return (uint32_t)1 << random_below(random, PACKETS);
+    case 1:
+        return all >> random_below(random, PACKETS);
+    default:
+        return held != 0 ? held : 1;
+    }
+}
+
+/* Its first count is at most the last accepted, often that one or shortly before. */
+static void open_snapshot(struct random *random, struct lpmag_state *state)
+{
+    struct lpmag_snapshot *open = &state->snapshot;
+    uint64_t before = room(random);
+    open->held = any_packets(random);
+    open->last_type = (uint8_t)(FIRST_PACKET + highest(open->held));
+    open->first = before <= state->last ? state->last - before : any_count(random, state->last);
+    open->cut = coin(random);
+}
+
 struct lpmag_state any_state(struct random *random, bool accumulation, bool major)
 {
     struct lpmag_state state = {.any = 1};
@@ -99,6 +124,8 @@ struct lpmag_state any_state(struct random *random, bool accumulation, bool majo
         state.last = any_count(random, COUNTS - 1);
     if (major)
         open_major(random, &state);
+    if (coin(random))
+        open_snapshot(random, &state);
     return state;
 }
 
@@ -116,7 +143,10 @@ uint32_t break_forms(enum clause clause)
         return PAST_COUNTS;
     case FRAMES_AMONG_36:
         return 2 * (64 - TYPES);
+    case PACKETS_AMONG_20:
+        return 2 * (32 - PACKETS);
     case FLAG_IS_0_OR_1:
+    case CUT_IS_0_OR_1:
     case HIGHEST_SLOT:
     case RANGES_TO_7:
     case RANGES_NOT_HELD:
@@ -127,13 +157,17 @@ uint32_t break_forms(enum clause clause)
         return 5;
     case HIGHEST_IS_LAST_TYPE:
     case FIRST_AND_FRAMES:
+    case SNAPSHOT_BEFORE_LAST:
+    case NO_SNAPSHOT_OPEN:
         return 6;
     case MAJOR_NUMBER:
         return 7;
-    case NOTHING_ACCEPTED:
+    case HIGHEST_IS_LAST_PACKET:
     case LAST_AND_OTHERS:
     case NO_ACCUMULATION_OPEN:
         return 8;
+    case NOTHING_ACCEPTED:
+        return 10;
     case MAG_AMONG_SLOTS:
         return 1;
     default:
@@ -141,7 +175,7 @@ uint32_t break_forms(enum clause clause)
     }
 }
 
-/* The last accepted count moves, and the open major frame with it. */
+/* The last accepted count moves, and the open major frame with it. A snapshot that is open stays. */
 static void move_last(struct random *random, struct lpmag_state *state, uint64_t last)
 {
     bool major = state->major.slots != 0;
@@ -177,8 +211,10 @@ void set_spare_bit(struct lpmag_state *state, unsigned bit)
         set_among(&state->spare8, &state->spare16, &state->spare32, bit);
     else if (bit < 2 * SPARES)
         set_among(&accumulation->spare8, &accumulation->spare16, &accumulation->spare32, bit - SPARES);
-    else
+    else if (bit < 2 * SPARES + 32)
         state->major.spare32 |= 1u << (bit - 2 * SPARES);
+    else
+        state->snapshot.spare16 |= (uint16_t)(1u << (bit - 2 * SPARES - 32));
 }
 
 /* Some bits, the last form all. */
@@ -300,11 +336,66 @@ static void break_closed(struct random *random, struct lpmag_accumulation *close
     }
 }
 
+/* A mark past the last packet, among the others or alone. */
+static void break_packets(struct lpmag_snapshot *open, uint32_t form)
+{
+    uint32_t mark = PACKETS + form / 2;
+    open->held = (uint32_t)1 << mark | (form % 2 == 0 ? open->held : 0);
+    open->last_type = (uint8_t)(FIRST_PACKET + mark);
+}
+
+static void break_last_packet(struct random *random, struct lpmag_snapshot *open, uint32_t form)
+{
+    const uint8_t types[] = {
+        (uint8_t)(open->last_type + 1),
+        (uint8_t)(open->last_type - 1),
+        (uint8_t)(open->last_type - FIRST_PACKET),                      /* the mark's own number */
+        (uint8_t)(open->last_type | BIT_6),                             /* of the same low six bits */
+        (uint8_t)(FIRST_PACKET + __builtin_ctz(open->held | 1u << 31)), /* the lowest held */
+        0,
+        255,
+        (uint8_t)random_next(random),
+    };
+    open->last_type = types[form];
+}
+
+static void break_snapshot_first(struct random *random, struct lpmag_state *state, uint32_t form)
+{
+    const uint64_t firsts[] = {
+        state->last + 1,     state->last + 2, state->last | (ROUND - 1),
+        state->last + ROUND, COUNTS - 1,      up_to(random, COUNTS - 1),
+    };
+    state->snapshot.first = firsts[form];
+}
+
+static void break_closed_snapshot(struct random *random, struct lpmag_snapshot *closed, uint32_t form)
+{
+    switch (form) {
+    case 0:
+    case 1:
+        closed->first = form == 0 ? 1 : up_to(random, COUNTS - 1);
+        break;
+    case 2:
+        closed->last_type = FIRST_PACKET;
+        break;
+    case 3:
+        closed->last_type = (uint8_t)up_to(random, 255);
+        break;
+    case 4:
+        closed->cut = 1;
+        break;
+    default:
+        closed->first = up_to(random, COUNTS - 1);
+        closed->last_type = (uint8_t)random_between(random, 36, 55);
+        closed->cut = coin(random);
+    }
+}
+
 /* Nothing was accepted, but something isn't 0: the least that keeps all other
  * clauses, or anything. */
 static void break_nothing(struct random *random, struct lpmag_state *state, uint32_t form)
 {
-    if (form < 7)
+    if (form < 9)
         *state = (struct lpmag_state){0};
     state->any = 0;
     switch (form) {
@@ -331,12 +422,19 @@ static void break_nothing(struct random *random, struct lpmag_state *state, uint
     case 6: /* the turn alone */
         state->last = ROUND * random_between(random, 1, 4095);
         break;
+    case 7: /* a snapshot alone, from count 0 */
+    case 8:
+        state->snapshot.held = any_packets(random);
+        state->snapshot.last_type = (uint8_t)(FIRST_PACKET + highest(state->snapshot.held));
+        state->snapshot.cut = form == 8;
+        break;
     }
 }
 
 static void break_clause(struct random *random, struct lpmag_state *state, enum clause clause, uint32_t form)
 {
     static const uint8_t flags[4] = {2, 3, 128, 255};
+    static const uint8_t cuts[4] = {2, 3, 128, 255};
     static const uint8_t ranges[4] = {8, 16, 128, 255};
     static const uint8_t ranges_not_held[4] = {1, 7, 8, 255};
     static const uint16_t words[4] = {0x0001, 0x0100, 0x8000, 0xFFFF};
@@ -345,6 +443,9 @@ static void break_clause(struct random *random, struct lpmag_state *state, enum 
     switch (clause) {
     case FLAG_IS_0_OR_1:
         state->any = flags[form];
+        break;
+    case CUT_IS_0_OR_1:
+        state->snapshot.cut = cuts[form];
         break;
     case SPARES_ARE_0:
         break_spares(random, state, form);
@@ -391,6 +492,18 @@ static void break_clause(struct random *random, struct lpmag_state *state, enum 
     case NOTHING_ACCEPTED:
         break_nothing(random, state, form);
         break;
+    case PACKETS_AMONG_20:
+        break_packets(&state->snapshot, form);
+        break;
+    case HIGHEST_IS_LAST_PACKET:
+        break_last_packet(random, &state->snapshot, form);
+        break;
+    case SNAPSHOT_BEFORE_LAST:
+        break_snapshot_first(random, state, form);
+        break;
+    case NO_SNAPSHOT_OPEN:
+        break_closed_snapshot(random, &state->snapshot, form);
+        break;
     default:
         break;
     }
@@ -434,10 +547,15 @@ struct lpmag_state broken_counts(struct random *random, uint32_t form)
     case 4: /* the first alone */
         open->first = past;
         break;
-    default: /* the first, so large that with the frames it comes back small */
+    case 5: /* the first, so large that with the frames it comes back small */
         open->held = ALL_HELD;
         open->last_type = TYPES - 1;
         open->first = 0 - (uint64_t)random_between(random, 1, TYPES - 1);
+        break;
+    default: /* that of a snapshot, alone or with the last accepted */
+        open_snapshot(random, &state);
+        state.snapshot.first = past;
+        state.last = form == 6 ? state.last : past;
     }
     if (coin(random))
         open_major(random, &state);

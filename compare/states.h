@@ -5,10 +5,10 @@
 
 #include "reader.h"
 
-/* A state that keeps the list, something having been accepted. */
+/* A state that keeps the list, something having been accepted. A snapshot is open in half of them. */
 struct lpmag_state any_state(struct random *random, bool accumulation, bool major);
 
-/* The number of forms in which a clause can be broken alone; 0 for the two that
+/* The number of forms in which a clause can be broken alone; 0 for the three that
  * can't be, since another count bounds theirs. */
 uint32_t break_forms(enum clause clause);
 
@@ -20,8 +20,9 @@ void set_spare_bit(struct lpmag_state *state, unsigned bit);
 
 /* A state with a count at 2^36 or past it, which may break other clauses too: the
  * last accepted; the last real-time with it; the first with both; the last real-time
- * alone; the first alone; the first, so large that the frames make it small. */
-enum { COUNT_FORMS = 6 };
+ * alone; the first alone; the first, so large that the frames make it small; the first of a
+ * snapshot, alone and with the last accepted. */
+enum { COUNT_FORMS = 8 };
 struct lpmag_state broken_counts(struct random *random, uint32_t form);
 
 #endif

@@ -1,4 +1,4 @@
-/* The nominal field in nT as CSV, 18 vectors for each real-time frame of a file or of standard input:
+/* The nominal field in nT as CSV, 18 vectors for each frame with MAG of a file or of standard input:
  *   cc -Iinclude examples/field.c target/staticlib/liblpmag.a -o field && ./field samples/stream.bin */
 #include <inttypes.h>
 #include <stdio.h>
@@ -30,8 +30,8 @@ int main(int argc, char **argv)
             lpmag_refusal_words(answer, words, LPMAG_WORDS);
             fprintf(stderr, "record %zu at byte %zu: refused with %d: %s\n", n, n * LPMAG_RECORD,
                     answer, words);
-        } else if (reader.report.fields.kind != LPMAG_OTHER) /* the full count: its own goes round */
-            print_vectors(reader.state.last, &reader.report.fields, record + LPMAG_PACKET_AT + LPMAG_MAG_AT);
+        } else if (reader.report.fields.kind <= 35 || reader.report.fields.kind == LPMAG_HALF_BURST) /* with MAG */
+            print_vectors(reader.state.last /* full */, &reader.report.fields, record + LPMAG_PACKET_AT + LPMAG_MAG_AT);
     }
     if (ferror(stdin))
         return fprintf(stderr, "field: the file can't be read\n"), 1;

@@ -18,6 +18,8 @@
 #define lpmag_range second_range
 #define lpmag_samples second_samples
 #define lpmag_field second_field
+#define lpmag_burst_range second_burst_range
+#define lpmag_burst_samples second_burst_samples
 #define lpmag_lay_electrons second_lay_electrons
 #define lpmag_cell second_cell
 #define lpmag_bin_samples second_bin_samples
@@ -34,5 +36,11 @@
 #define lpmag_major_word second_major_word
 #define lpmag_major_sample second_major_sample
 #define lpmag_major_field second_major_field
+#define lpmag_snapshot_byte second_snapshot_byte
+#define lpmag_snapshot_three_d second_snapshot_three_d
+#define lpmag_snapshot_pitch second_snapshot_pitch
+#define lpmag_snapshot_total second_snapshot_total
+#define lpmag_snapshot_rate second_snapshot_rate
+#define lpmag_snapshot_angle second_snapshot_angle
 
 #endif

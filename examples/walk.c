@@ -2,8 +2,9 @@
  * used from C, over lpmag_reader.h.
  *   cc -Iinclude examples/walk.c target/staticlib/liblpmag.a -o walk
  *   ./walk FILE [N]
- * It prints the N-th major frame and the N-th accumulation handed out, the first if no
- * N is given, and last how many records were refused, and by which rule. */
+ * It prints the N-th major frame, the N-th accumulation and the N-th snapshot of a burst handed out,
+ * the N-th second of MAG in a burst, the first if no N is given, and last how many records were
+ * refused, and by which rule. */
 #include <inttypes.h>
 #include <stdint.h>
 #include <stdio.h>
@@ -11,7 +12,7 @@
 
 #include "lpmag_reader.h"
 
-/* What is asked of the accumulation: one energy bin and one 3D energy step. */
+/* What is asked of an accumulation and of a snapshot: one energy bin and one 3D energy step. */
 enum { BIN = 7, STEP = 0 };
 enum { RULES = 14, RECORDS_OF_A_READ = 256 };
 
@@ -19,6 +20,7 @@ struct walk {
     struct lpmag_reader reader;
     uint64_t wanted;                /* N */
     uint64_t majors, accumulations; /* handed out so far */
+    uint64_t snapshots, seconds;    /* likewise */
     uint64_t records;               /* taken so far, */
     uint64_t refused[RULES + 1];    /* and of them refused, by rule */
 };
@@ -98,6 +100,66 @@ static void print_accumulation(const uint8_t *cells, uint64_t first_count, uint6
     print_step(cells, held);
 }
 
+/* ---- a burst ---------------------------------------------------------- */
+
+/* The two directions of the magnetic field that sorted the electrons. */
+static void print_directions(const uint8_t *snapshot, uint32_t held)
+{
+    static const char *const names[LPMAG_MAG_ANGLES] = {"MagTh", "MagPhi", "MagTh", "MagPhi"};
+    printf("\nmagnetic angles in degrees:");
+    for (size_t number = 0; number < LPMAG_MAG_ANGLES; number++) {
+        uint8_t angle = 0;
+        if (lpmag_snapshot_angle(snapshot, LPMAG_SNAPSHOT, held, number, &angle) == LPMAG_OK)
+            printf(" %s %.10g", names[number], angle * 360.0 / 256);
+        else
+            printf(" %s absent", names[number]);
+    }
+}
+
+static void print_snapshot(const uint8_t *snapshot, uint64_t first_count, uint32_t held)
+{
+    uint64_t range[2] = {0};
+    printf("snapshot, first count %" PRIu64 "\n", first_count);
+    print_marks("packet types held", (uint64_t)held << 36); /* the first packet is of type 36 */
+    printf("Total ");
+    print_counts(lpmag_snapshot_total(snapshot, LPMAG_SNAPSHOT, held, &range[0], &range[1]), range);
+    printf("\nRate  ");
+    print_counts(lpmag_snapshot_rate(snapshot, LPMAG_SNAPSHOT, held, &range[0], &range[1]), range);
+    print_directions(snapshot, held);
+
+    printf("\nenergy %d, counts by pitch angle, four a line", BIN);
+    for (size_t angle = 0; angle < LPMAG_PITCH_ANGLES; angle++) {
+        if (angle % 4 == 0)
+            printf("\n%6zu", angle);
+        print_counts(lpmag_snapshot_pitch(snapshot, LPMAG_SNAPSHOT, held, BIN, angle, &range[0], &range[1]),
+                     range);
+    }
+    printf("\n3D energy step %d, counts by angle, four a line", STEP);
+    for (size_t angle = 0; angle < LPMAG_ANGLES; angle++) {
+        if (angle % 4 == 0)
+            printf("\n%6zu", angle);
+        print_counts(
+            lpmag_snapshot_three_d(snapshot, LPMAG_SNAPSHOT, held, STEP, angle, &range[0], &range[1]), range);
+    }
+    printf("\n");
+}
+
+/* A burst packet that is a second of MAG: 18 vectors. */
+static void print_second(uint32_t count, uint8_t range, const int16_t *samples)
+{
+    printf("second of MAG in a burst, of the record with count %" PRIu32 "\n", count);
+    printf("nominal field in nT, range %d: x, y, z", range);
+    for (size_t number = 0; number < LPMAG_SAMPLES; number++) {
+        float field = 0;
+        if (lpmag_field(samples[number], range, &field) != LPMAG_OK)
+            give_up("there is no such field");
+        if (number % 3 == 0)
+            printf("\n%6zu", number / 3);
+        printf(" %15.10g", field);
+    }
+    printf("\n");
+}
+
 /* ---- a major frame ---------------------------------------------------- */
 
 static void print_words(const struct lpmag_major *major)
@@ -154,6 +216,23 @@ static void take(struct walk *walk, const struct lpmag_closed *closed)
         print_major(&closed->major, reader->finished_samples);
     if (closed->accumulation_closed && ++walk->accumulations == walk->wanted)
         print_accumulation(reader->finished_cells, closed->accumulation_first, closed->accumulation_held);
+    if (closed->first_snapshot.closed && ++walk->snapshots == walk->wanted)
+        print_snapshot(reader->first_snapshot, closed->first_snapshot.first, closed->first_snapshot.held);
+    if (closed->second_snapshot.closed && ++walk->snapshots == walk->wanted) /* a frame may close two */
+        print_snapshot(reader->second_snapshot, closed->second_snapshot.first, closed->second_snapshot.held);
+}
+
+/* A record has no burst packet, one or two; which of them are seconds of MAG the answer tells. */
+static void take_seconds(struct walk *walk, const uint8_t *record)
+{
+    for (uint8_t which = 0; which < 2; which++) {
+        int16_t samples[LPMAG_SAMPLES] = {0};
+        struct lpmag_fields fields = {0};
+        uint8_t range = lpmag_burst_samples(record, LPMAG_RECORD, which, samples, LPMAG_SAMPLES);
+        if (range != LPMAG_NO_SUCH_PLACE && ++walk->seconds == walk->wanted &&
+            lpmag_fields(&fields, record, LPMAG_RECORD) == LPMAG_OK)
+            print_second(fields.count, range, samples);
+    }
 }
 
 static void count(struct walk *walk, uint64_t records, uint8_t answer)
@@ -169,6 +248,12 @@ static void expect_ok(uint8_t answer)
         give_up("the state or a buffer isn't what the last call left");
 }
 
+/* The bytes of the records that a call accepted: all that it took, but for a last one refused. */
+static size_t accepted(const struct lpmag_fed *fed)
+{
+    return fed->answer == LPMAG_OK ? fed->taken : fed->taken - LPMAG_RECORD;
+}
+
 /* Whole records, and maybe a short one after them. Each call takes records up to one that is refused or
  * closes something: all before that one were accepted. */
 static void walk_records(struct walk *walk, const uint8_t *bytes, size_t length)
@@ -176,6 +261,8 @@ static void walk_records(struct walk *walk, const uint8_t *bytes, size_t length)
     struct lpmag_reader *reader = &walk->reader;
     do {
         expect_ok(lpmag_reader_feed(reader, bytes, length));
+        for (size_t at = 0; at < accepted(&reader->fed); at += LPMAG_RECORD)
+            take_seconds(walk, bytes + at);
         bytes += reader->fed.taken;
         length -= reader->fed.taken;
         count(walk, reader->fed.taken / LPMAG_RECORD, reader->fed.answer);

@@ -34,10 +34,10 @@
  * refusal's.
  *
  * Refusals: the number of the first rule of this list that fails (01, "Numbers a
- * refused record gets"; 02, request 1; lpmag_refusal_words has the words).
+ * refused record gets"; 02, requests 1 and 2; lpmag_refusal_words has the words).
  *    1  a lent buffer isn't of its size, or the state isn't one: a flag byte other than 0
- *       and 1, a spare field other than 0, or numbers that break 01's list for the state.
- *       Every state that step, feed and finish hand out passes; so do some others
+ *       and 1, a spare field other than 0, or numbers that break 01's and 02's list for the
+ *       state. Every state that step, feed and finish hand out passes; so do some others
  *    2  the record isn't of 472 bytes
  *    3  it doesn't begin with the sync 1A CF FC 1D
  *    4  the packet version or the spacecraft is another
@@ -47,7 +47,8 @@
  *    8  the millisecond is above 86,399,999
  *    9  a spare bit of the status word is set
  *   10  one of the three status flags is 00 or 11, neither 01 nor 10
- *   11  the frame's type is one of 58 to 61, which are not defined
+ *   11  the frame's type is one of 58 to 61, which are not defined, or it is a full burst whose
+ *       second type is none of 36 to 57 and 62
  *   12  something was accepted before, and the record isn't later
  *   14  the record's turn would be past 4,095
  * No answer has 13.
@@ -73,9 +74,9 @@
 extern "C" {
 #endif
 
-/* 100 times the first number of the version, and the second: 1.0. It is the header's;
+/* 100 times the first number of the version, and the second: 2.0. It is the header's;
  * the library's is what lpmag_version answers (the value). */
-#define LPMAG_VERSION 100
+#define LPMAG_VERSION 200
 uint32_t lpmag_version(void);
 
 /* Sizes of slices. */
@@ -87,8 +88,11 @@ uint32_t lpmag_version(void);
 #define LPMAG_SAMPLES 54   /* numbers: 18 vectors of x, y, z */
 #define LPMAG_SCIENCE 83   /* bytes: the ER bytes of a packet, */
 #define LPMAG_SCIENCE_AT 85 /* and where they stand in the packet */
+#define LPMAG_SECOND_AT 86 /* where a half burst's packet and a full burst's second stand */
 #define LPMAG_CELLS 2997   /* bytes: an accumulation, 2,988 cells and 9 bytes of bit pairs */
 #define LPMAG_FRAME 864    /* numbers: the samples of a major frame, 16 slots of 54 */
+#define LPMAG_SNAPSHOT 1640 /* bytes: a burst snapshot, 20 packets of 82 */
+#define LPMAG_BURST 82     /* bytes: one burst packet */
 #define LPMAG_WORDS 80     /* bytes: room for the words of any refusal */
 
 /* How many there are of what is asked for by number, from 0 on. */
@@ -97,11 +101,13 @@ uint32_t lpmag_version(void);
 #define LPMAG_PITCH_ANGLES 16 /* angles of such a sample */
 #define LPMAG_STEPS 15        /* energy steps of 3D */
 #define LPMAG_ANGLES 88       /* angles of such a step */
+#define LPMAG_ENERGIES 15     /* energies of a snapshot's pitch angle data */
+#define LPMAG_MAG_ANGLES 4    /* bytes of a snapshot's two magnetic samples */
 
 /* Answers. */
 #define LPMAG_OK 0              /* accepted; passes; the value is given */
 #define LPMAG_NO_SUCH_PLACE 128 /* nothing stands where it was asked for */
-#define LPMAG_ABSENT 129        /* the frame that carries it isn't held */
+#define LPMAG_ABSENT 129        /* the frame or burst packet that carries it isn't held */
 #define LPMAG_SCALE_UNKNOWN 130 /* the frame that says its scale isn't held */
 #define LPMAG_TOO_LARGE 131     /* a sum past 64 bits */
 #define LPMAG_NO_SUCH_BIN 132   /* no such anode, spin phase or energy bin */
@@ -109,11 +115,17 @@ uint32_t lpmag_version(void);
 /* What became of a frame (01, "Joining accumulations"): `gap` of a report. */
 #define LPMAG_OPENS 0   /* a real-time frame that opened an accumulation */
 #define LPMAG_JOINS 1   /* a real-time frame that joined the open one */
-#define LPMAG_NEITHER 2 /* an other frame */
+#define LPMAG_NEITHER 2 /* any other frame */
 
-/* Kinds of a frame: 0 to 35 for a real-time frame of that type, or */
-#define LPMAG_OTHER 64     /* types 36 to 57, 62 and 63 */
-#define LPMAG_UNDEFINED 65 /* types 58 to 61, which rule 11 refuses */
+/* Kinds of a frame (000, section 2.1): 0 to 35 for a real-time frame of that type, or */
+#define LPMAG_OTHER 64      /* type 63, a memory dump: nothing of it is kept but its subcom word */
+#define LPMAG_UNDEFINED 65  /* what rule 11 refuses: types 58 to 61, a full burst with a second type
+                               that is none */
+#define LPMAG_HALF_BURST 66 /* types 36 to 57 and 62, top bit of the frame code clear: MAG, and one
+                               burst packet at LPMAG_SECOND_AT */
+#define LPMAG_FULL_BURST 67 /* the same types, top bit set: no MAG, packet one at LPMAG_MAG_AT, the
+                               type byte of packet two at LPMAG_SCIENCE_AT, packet two at
+                               LPMAG_SECOND_AT */
 
 /* ---- structs ---------------------------------------------------------- */
 
@@ -136,11 +148,21 @@ struct lpmag_accumulation {
     uint64_t first;      /* the count of its first frame */
     uint64_t held;       /* the frames held, bit u of weight 2^u for type u */
     uint64_t last_count; /* the count of its last frame */
-    uint64_t others;     /* the other frames accepted since its last frame */
+    uint64_t others;     /* the frames accepted since its last one that aren't real-time */
     uint8_t last_type;   /* the type of its last frame */
     uint8_t spare8;      /* 0 */
     uint16_t spare16;    /* 0 */
     uint32_t spare32;    /* 0 */
+};
+
+/* An open snapshot of a burst. It is open when it holds a packet; else all is 0. */
+struct lpmag_snapshot {
+    uint64_t first;    /* the count of the frame that brought its first packet */
+    uint32_t held;     /* the packets held, bit t - 36 of weight 2^(t - 36) for type t, 36 to 55 */
+    uint8_t last_type; /* the type of its last packet */
+    uint8_t cut;       /* 1 when, since its last packet, a count wasn't accepted or a burst
+                          packet's type byte had bit 6: then nothing joins it; else 0 */
+    uint16_t spare16;  /* 0 */
 };
 
 /* The reader's state. All 0 is the fresh one; equal states are equal bytes. It is made
@@ -154,6 +176,7 @@ struct lpmag_state {
     uint32_t spare32; /* 0 */
     struct lpmag_accumulation accumulation; /* the open accumulation */
     struct lpmag_major major; /* the open major frame: open when it holds a slot */
+    struct lpmag_snapshot snapshot; /* the open snapshot */
 };
 
 /* The fields of a record that passes rules 2 to 11. (In C++ too write `struct
@@ -170,9 +193,21 @@ struct lpmag_fields {
     uint8_t third_flag;
     uint8_t frame_code;     /* the type byte */
     uint8_t frame_type;     /* its low six bits */
-    uint8_t kind;           /* 0 to 35, or LPMAG_OTHER */
+    uint8_t kind;           /* 0 to 35, LPMAG_HALF_BURST, LPMAG_FULL_BURST or LPMAG_OTHER */
     uint8_t level_finite;   /* 1 when the level is a finite number, else 0 */
     uint8_t quality_finite; /* 1 when the quality is */
+    uint8_t second_code;    /* of a full burst the type byte of its second packet; else 0 */
+    uint8_t spare8;         /* 0 */
+    uint16_t spare16;       /* 0 */
+};
+
+/* A snapshot that a call closed. */
+struct lpmag_closed_snapshot {
+    uint64_t first;   /* the count of the frame that brought its first packet */
+    uint32_t held;    /* the packets it holds, bit t - 36 for type t */
+    uint8_t closed;   /* 1 when it was closed, else 0 */
+    uint8_t spare8;   /* 0 */
+    uint16_t spare16; /* 0 */
 };
 
 /* What a call closed. What wasn't closed is all 0. */
@@ -184,6 +219,10 @@ struct lpmag_closed {
     uint8_t accumulation_closed; /* 1 when an accumulation was closed, else 0 */
     uint16_t spare16;            /* 0 */
     uint32_t spare32;            /* 0 */
+    struct lpmag_closed_snapshot first_snapshot;  /* the snapshot that closed first; its bytes
+                                                     are in the first finished snapshot */
+    struct lpmag_closed_snapshot second_snapshot; /* the second, likewise: closed only where the
+                                                     first is */
 };
 
 /* Of an accepted record. */
@@ -192,6 +231,7 @@ struct lpmag_report {
     uint8_t gap;      /* what became of the frame: LPMAG_OPENS, LPMAG_JOINS or LPMAG_NEITHER */
     uint8_t spare8;   /* 0 */
     uint16_t spare16; /* 0 */
+    uint32_t spare32; /* 0 */
     struct lpmag_closed closed;
 };
 
@@ -236,8 +276,8 @@ uint8_t lpmag_fields(struct lpmag_fields *fields, const uint8_t *record, size_t 
 uint8_t lpmag_packet(const uint8_t *record, size_t length, uint8_t *room, size_t room_length);
 
 /* The kind of a packet's frame, the value: 0 to 35 for a real-time frame of that type,
- * LPMAG_OTHER or LPMAG_UNDEFINED; LPMAG_UNDEFINED too for a packet that isn't of
- * LPMAG_PACKET bytes. */
+ * LPMAG_HALF_BURST, LPMAG_FULL_BURST, LPMAG_OTHER or LPMAG_UNDEFINED; LPMAG_UNDEFINED too
+ * for a packet that isn't of LPMAG_PACKET bytes. */
 uint8_t lpmag_kind(const uint8_t *packet, size_t length);
 
 /* The words for the number of a refusal, into a room of at least LPMAG_WORDS bytes:
@@ -261,6 +301,15 @@ uint8_t lpmag_samples(const uint8_t *mag, size_t length, int16_t *room, size_t r
  * sample times 4 to the power of the range; sample 0 gives plus zero.
  * LPMAG_NO_SUCH_PLACE for a range above 7 or a sample outside -2,048 to 2,047. */
 uint8_t lpmag_field(int16_t sample, uint8_t range, float *field);
+
+/* A second of MAG in a burst, packet type 56 (000, section 2.4): of a record that passes
+ * rules 2 to 11, its burst packet `which`, 0 for the first and 1 for the second. Range and
+ * samples as lpmag_range and lpmag_samples give them of its 82 bytes. Each answers the range,
+ * the value; LPMAG_NO_SUCH_PLACE for a record that doesn't pass, a packet that it hasn't (any
+ * `which` above 1 too), a packet of another type, and a room of another size. */
+uint8_t lpmag_burst_range(const uint8_t *record, size_t length, uint8_t which);
+uint8_t lpmag_burst_samples(const uint8_t *record, size_t length, uint8_t which, int16_t *room,
+                            size_t room_length);
 
 /* ---- the electrons ---------------------------------------------------- */
 
@@ -327,7 +376,7 @@ uint8_t lpmag_angle(size_t anode, size_t phase);
 
 /* ---- the reader ------------------------------------------------------- */
 
-/* One record in, one answer out. Between calls the caller keeps a state and four
+/* One record in, one answer out. Between calls the caller keeps a state and seven
  * buffers, and hands each on as the last call left it:
  *   open cells         LPMAG_CELLS bytes: the open accumulation. 0 where no frame that
  *                      it holds carries the cell, and in the bit pair of a type that isn't
@@ -339,6 +388,11 @@ uint8_t lpmag_angle(size_t anode, size_t phase);
  *                      isn't held with MAG; anything while none was ever open
  *   finished samples   LPMAG_FRAME numbers: the major frame that was closed last; they
  *                      change only when one closes
+ *   open snapshot      LPMAG_SNAPSHOT bytes: the open snapshot. 0 where no packet that it
+ *                      holds carries the byte; anything while none was ever open
+ *   first snapshot     LPMAG_SNAPSHOT bytes: the snapshot that a call closed, the first of
+ *                      them where it closed two; it changes only when one closes into it
+ *   second snapshot    LPMAG_SNAPSHOT bytes: the second of two that one record closed, likewise
  * A fresh state is all 0; the buffers may hold anything then.
  *
  * What is left of the input at its end, when it is shorter than a record, is one record
@@ -350,7 +404,10 @@ uint8_t lpmag_angle(size_t anode, size_t phase);
 uint8_t lpmag_step(struct lpmag_state *state, struct lpmag_report *report, uint8_t *open_cells,
                    size_t open_cells_length, uint8_t *finished_cells, size_t finished_cells_length,
                    int16_t *open_samples, size_t open_samples_length, int16_t *finished_samples,
-                   size_t finished_samples_length, const uint8_t *record, size_t length);
+                   size_t finished_samples_length, uint8_t *open_snapshot,
+                   size_t open_snapshot_length, uint8_t *first_snapshot,
+                   size_t first_snapshot_length, uint8_t *second_snapshot,
+                   size_t second_snapshot_length, const uint8_t *record, size_t length);
 
 /* Takes whole records from the front of `bytes`, one after another, until one is
  * refused or closes something, or no whole one is left. Answers 1 when rule 1 fails, also
@@ -362,16 +419,23 @@ uint8_t lpmag_step(struct lpmag_state *state, struct lpmag_report *report, uint8
 uint8_t lpmag_feed(struct lpmag_state *state, struct lpmag_fed *fed, uint8_t *open_cells,
                    size_t open_cells_length, uint8_t *finished_cells, size_t finished_cells_length,
                    int16_t *open_samples, size_t open_samples_length, int16_t *finished_samples,
-                   size_t finished_samples_length, const uint8_t *bytes, size_t length);
+                   size_t finished_samples_length, uint8_t *open_snapshot,
+                   size_t open_snapshot_length, uint8_t *first_snapshot,
+                   size_t first_snapshot_length, uint8_t *second_snapshot,
+                   size_t second_snapshot_length, const uint8_t *bytes, size_t length);
 
-/* Closes what is open, the major frame and the accumulation, and keeps the last accepted
- * count. Answers LPMAG_OK, and then `closed` says what it closed; or 1 where rule 1 fails,
- * and then state, `closed` and buffers stay as found. */
+/* Closes what is open, the major frame, the accumulation and the snapshot, which goes into
+ * the first finished one, and keeps the last accepted count. Answers LPMAG_OK, and then
+ * `closed` says what it closed; or 1 where rule 1 fails, and then state, `closed` and buffers
+ * stay as found. */
 uint8_t lpmag_finish(struct lpmag_state *state, struct lpmag_closed *closed, uint8_t *open_cells,
                      size_t open_cells_length, uint8_t *finished_cells,
                      size_t finished_cells_length, int16_t *open_samples,
                      size_t open_samples_length, int16_t *finished_samples,
-                     size_t finished_samples_length);
+                     size_t finished_samples_length, uint8_t *open_snapshot,
+                     size_t open_snapshot_length, uint8_t *first_snapshot,
+                     size_t first_snapshot_length, uint8_t *second_snapshot,
+                     size_t second_snapshot_length);
 
 /* ---- questions about a finished major frame --------------------------- */
 
@@ -394,6 +458,43 @@ uint8_t lpmag_major_sample(const struct lpmag_major *major, const int16_t *sampl
  * cases, and where the slot's range is above 7. */
 uint8_t lpmag_major_field(const struct lpmag_major *major, const int16_t *samples,
                           size_t samples_length, size_t slot, size_t number, float *field);
+
+/* ---- questions about a finished snapshot ------------------------------ */
+
+/* A snapshot is LPMAG_SNAPSHOT bytes (000, section 2.4.1): half a spin of electrons.
+ *      0 to 3     the header, as that of an accumulation
+ *      4 to 1323  3D: energy step e, angle b at 4 + 88 e + b
+ *   1324 to 1563  pitch angle data: energy e, angle a at 1324 + 16 e + a
+ *   1564 to 1567  MagTh and MagPhi of the first magnetic sample, then of the second
+ *   1568 to 1639  the ER table
+ * The packet of type t, 36 to 55, carries the 82 bytes from 82 (t - 36) on. `held` is as
+ * reported. All answer LPMAG_NO_SUCH_PLACE when a mark past type 55 is set (bit 20 or
+ * above), when the snapshot is of another size, and for any number out of its bounds;
+ * after that LPMAG_ABSENT when the packet that carries the byte isn't held. Numbers lent
+ * for an answer change only when it is LPMAG_OK. Burst data is never pre-scaled. */
+
+/* The raw byte 0 to 1639. */
+uint8_t lpmag_snapshot_byte(const uint8_t *snapshot, size_t length, uint32_t held, size_t place,
+                            uint8_t *byte);
+
+/* The counts of 3D energy step 0 to 14, angle 0 to 87. */
+uint8_t lpmag_snapshot_three_d(const uint8_t *snapshot, size_t length, uint32_t held, size_t step,
+                               size_t angle, uint64_t *low, uint64_t *high);
+
+/* The counts of pitch angle data: energy 0 to 14, angle 0 to 15. */
+uint8_t lpmag_snapshot_pitch(const uint8_t *snapshot, size_t length, uint32_t held, size_t energy,
+                             size_t angle, uint64_t *low, uint64_t *high);
+
+/* Total counts and rate counter, header bytes 2 and 3, as lpmag_total and lpmag_rate. */
+uint8_t lpmag_snapshot_total(const uint8_t *snapshot, size_t length, uint32_t held, uint64_t *low,
+                             uint64_t *high);
+uint8_t lpmag_snapshot_rate(const uint8_t *snapshot, size_t length, uint32_t held, uint64_t *low,
+                            uint64_t *high);
+
+/* The magnetic direction that sorted the electrons: number 0 is MagTh of the first sample,
+ * 1 its MagPhi, 2 and 3 those of the second, each in 360/256 of a degree. */
+uint8_t lpmag_snapshot_angle(const uint8_t *snapshot, size_t length, uint32_t held, size_t number,
+                             uint8_t *angle);
 
 #ifdef __cplusplus
 }
@@ -427,7 +528,14 @@ LPMAG_AT(lpmag_accumulation, spare8, 33);
 LPMAG_AT(lpmag_accumulation, spare16, 34);
 LPMAG_AT(lpmag_accumulation, spare32, 36);
 
-LPMAG_SIZE(lpmag_state, 120);
+LPMAG_SIZE(lpmag_snapshot, 16);
+LPMAG_AT(lpmag_snapshot, first, 0);
+LPMAG_AT(lpmag_snapshot, held, 8);
+LPMAG_AT(lpmag_snapshot, last_type, 12);
+LPMAG_AT(lpmag_snapshot, cut, 13);
+LPMAG_AT(lpmag_snapshot, spare16, 14);
+
+LPMAG_SIZE(lpmag_state, 136);
 LPMAG_AT(lpmag_state, last, 0);
 LPMAG_AT(lpmag_state, any, 8);
 LPMAG_AT(lpmag_state, spare8, 9);
@@ -435,8 +543,9 @@ LPMAG_AT(lpmag_state, spare16, 10);
 LPMAG_AT(lpmag_state, spare32, 12);
 LPMAG_AT(lpmag_state, accumulation, 16);
 LPMAG_AT(lpmag_state, major, 56);
+LPMAG_AT(lpmag_state, snapshot, 120);
 
-LPMAG_SIZE(lpmag_fields, 28);
+LPMAG_SIZE(lpmag_fields, 32);
 LPMAG_AT(lpmag_fields, count, 0);
 LPMAG_AT(lpmag_fields, millisecond, 4);
 LPMAG_AT(lpmag_fields, level, 8);
@@ -451,8 +560,18 @@ LPMAG_AT(lpmag_fields, frame_type, 24);
 LPMAG_AT(lpmag_fields, kind, 25);
 LPMAG_AT(lpmag_fields, level_finite, 26);
 LPMAG_AT(lpmag_fields, quality_finite, 27);
+LPMAG_AT(lpmag_fields, second_code, 28);
+LPMAG_AT(lpmag_fields, spare8, 29);
+LPMAG_AT(lpmag_fields, spare16, 30);
 
-LPMAG_SIZE(lpmag_closed, 88);
+LPMAG_SIZE(lpmag_closed_snapshot, 16);
+LPMAG_AT(lpmag_closed_snapshot, first, 0);
+LPMAG_AT(lpmag_closed_snapshot, held, 8);
+LPMAG_AT(lpmag_closed_snapshot, closed, 12);
+LPMAG_AT(lpmag_closed_snapshot, spare8, 13);
+LPMAG_AT(lpmag_closed_snapshot, spare16, 14);
+
+LPMAG_SIZE(lpmag_closed, 120);
 LPMAG_AT(lpmag_closed, major, 0);
 LPMAG_AT(lpmag_closed, accumulation_first, 64);
 LPMAG_AT(lpmag_closed, accumulation_held, 72);
@@ -460,15 +579,18 @@ LPMAG_AT(lpmag_closed, major_closed, 80);
 LPMAG_AT(lpmag_closed, accumulation_closed, 81);
 LPMAG_AT(lpmag_closed, spare16, 82);
 LPMAG_AT(lpmag_closed, spare32, 84);
+LPMAG_AT(lpmag_closed, first_snapshot, 88);
+LPMAG_AT(lpmag_closed, second_snapshot, 104);
 
-LPMAG_SIZE(lpmag_report, 120);
+LPMAG_SIZE(lpmag_report, 160);
 LPMAG_AT(lpmag_report, fields, 0);
-LPMAG_AT(lpmag_report, gap, 28);
-LPMAG_AT(lpmag_report, spare8, 29);
-LPMAG_AT(lpmag_report, spare16, 30);
-LPMAG_AT(lpmag_report, closed, 32);
+LPMAG_AT(lpmag_report, gap, 32);
+LPMAG_AT(lpmag_report, spare8, 33);
+LPMAG_AT(lpmag_report, spare16, 34);
+LPMAG_AT(lpmag_report, spare32, 36);
+LPMAG_AT(lpmag_report, closed, 40);
 
-LPMAG_SIZE(lpmag_fed, 104);
+LPMAG_SIZE(lpmag_fed, 136);
 LPMAG_AT(lpmag_fed, taken, 0);
 LPMAG_AT(lpmag_fed, answer, 8);
 LPMAG_AT(lpmag_fed, spare8, 9);

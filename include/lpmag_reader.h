@@ -2,7 +2,7 @@
  * is lent in one struct. lpmag_reader_init makes a fresh one; each other function calls
  * the one of lpmag.h that has its name, and what is said there holds here.
  *
- *     static struct lpmag_reader reader;       // 9,888 bytes
+ *     static struct lpmag_reader reader;       // 14,928 bytes
  *     lpmag_reader_init(&reader);
  *     while ((length = fread(record, 1, LPMAG_RECORD, file)) > 0)
  *         if (lpmag_reader_step(&reader, record, length) == LPMAG_OK)
@@ -25,6 +25,9 @@ struct lpmag_reader {
     uint8_t finished_cells[LPMAG_CELLS]; /* the accumulation closed last */
     int16_t open_samples[LPMAG_FRAME];
     int16_t finished_samples[LPMAG_FRAME]; /* the major frame closed last */
+    uint8_t open_snapshot[LPMAG_SNAPSHOT];
+    uint8_t first_snapshot[LPMAG_SNAPSHOT];  /* the snapshot that a call closed, the first or only one */
+    uint8_t second_snapshot[LPMAG_SNAPSHOT]; /* and the second */
 };
 
 /* A fresh reader, all 0. */
@@ -38,7 +41,8 @@ static inline uint8_t lpmag_reader_step(struct lpmag_reader *reader, const uint8
 {
     return lpmag_step(&reader->state, &reader->report, reader->open_cells, LPMAG_CELLS, reader->finished_cells,
                       LPMAG_CELLS, reader->open_samples, LPMAG_FRAME, reader->finished_samples, LPMAG_FRAME,
-                      record, length);
+                      reader->open_snapshot, LPMAG_SNAPSHOT, reader->first_snapshot, LPMAG_SNAPSHOT,
+                      reader->second_snapshot, LPMAG_SNAPSHOT, record, length);
 }
 
 /* Whole records from the front of the bytes, until one has something to tell: lpmag_feed. */
@@ -46,14 +50,17 @@ static inline uint8_t lpmag_reader_feed(struct lpmag_reader *reader, const uint8
 {
     return lpmag_feed(&reader->state, &reader->fed, reader->open_cells, LPMAG_CELLS, reader->finished_cells,
                       LPMAG_CELLS, reader->open_samples, LPMAG_FRAME, reader->finished_samples, LPMAG_FRAME,
-                      bytes, length);
+                      reader->open_snapshot, LPMAG_SNAPSHOT, reader->first_snapshot, LPMAG_SNAPSHOT,
+                      reader->second_snapshot, LPMAG_SNAPSHOT, bytes, length);
 }
 
 /* Closes what is open: lpmag_finish. */
 static inline uint8_t lpmag_reader_finish(struct lpmag_reader *reader)
 {
     return lpmag_finish(&reader->state, &reader->closed, reader->open_cells, LPMAG_CELLS, reader->finished_cells,
-                        LPMAG_CELLS, reader->open_samples, LPMAG_FRAME, reader->finished_samples, LPMAG_FRAME);
+                        LPMAG_CELLS, reader->open_samples, LPMAG_FRAME, reader->finished_samples, LPMAG_FRAME,
+                        reader->open_snapshot, LPMAG_SNAPSHOT, reader->first_snapshot, LPMAG_SNAPSHOT,
+                        reader->second_snapshot, LPMAG_SNAPSHOT);
 }
 
 #endif

@@ -11,10 +11,11 @@ import re
 import sys
 import textwrap
 
-BUFFERS = [("mut", "u8"), ("mut", "u8"), ("mut", "i16"), ("mut", "i16")]
+# open and finished cells, open and finished samples, the open snapshot and the two finished ones
+BUFFERS = [("mut", "u8"), ("mut", "u8"), ("mut", "i16"), ("mut", "i16"), ("mut", "u8"), ("mut", "u8"), ("mut", "u8")]
 SHAPES = {
-    "Reading": ("two structs, four buffers and a record", "mut", ["S", "R"], BUFFERS + [("imm", "u8")]),
-    "Ending": ("two structs and four buffers", "mut", ["S", "R"], BUFFERS),
+    "Reading": ("two structs, seven buffers and a record", "mut", ["S", "R"], BUFFERS + [("imm", "u8")]),
+    "Ending": ("two structs and seven buffers", "mut", ["S", "R"], BUFFERS),
     "Filling": ("one struct and a record", "mut", ["R"], [("imm", "u8")]),
     "Asking": ("one struct to read, a number, and a number for the answer", "shr", ["S"], [("num",), ("ref",)]),
     "Seeking": ("one struct to read, samples, two numbers, and a number for the answer", "shr", ["S"],

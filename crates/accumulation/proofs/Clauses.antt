@@ -2,23 +2,16 @@
 -- Assumes nothing.
 use mathlib.Core.Path.{_≡_, refl, sym}
 use mathlib.Core.Bool.{Bool, true, false}
-use Prim.Native.Nat.{ℕ, _+_, _-_, _/_, _^_, _<_, _≤_}
-use native.Mathlib.Nat.{div-eq-of-lt, lt-of-lt-of-le}
+use Prim.Native.Nat.{ℕ, _+_, _-_, _^_, _<_, _≤_}
 use native.Mathlib.Omega.{arith}
 use lib.Count.{ones}
 use lib.Dec.{ltb, leb}
-use lib.Pow.{pow-mono}
 use borrow.Author.Tests.{ne-eqb, le-leb, lt-leb, lt-ltb, le-ltb, ltb-true, ltb-false, leb-true, leb-false}
-use Rattle.tables.specs.Marks.{highest}
+use Rattle.tables.proofs.Marks.{none-above}
 use Rattle.clock.specs.declared.Clock.{Clock}
 use Rattle.accumulation.specs.List.{framesAmong, framesFit, othersFit}
 use Rattle.accumulation.specs.Place.{inPlace}
 use Rattle.accumulation.specs.declared.Accumulation.{Accumulation}
-
--- marks below 2^n have no highest from n on
-pub none-above : (n t held : ℕ) → held < 2 ^ n → n ≤ t → highest held t ≡ false
-unfolding highest
-none-above n t held h l = let e : held / 2 ^ t ≡ 0 = div-eq-of-lt (lt-of-lt-of-le h (pow-mono l)) in rw e
 
 pub type-above : (a : Accumulation) → a .held < 2 ^ 36 → (a .held ≡ 0 → ⊥) → 35 < a .«last_type» → false ≡ framesAmong a
 unfolding framesAmong

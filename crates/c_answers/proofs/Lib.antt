@@ -1,2 +1,3 @@
 pub mod Outcomes
+pub mod Handing
 pub mod Single

@@ -1,2 +1,2 @@
-pub mod Questions
+pub mod Laid
 pub mod Single

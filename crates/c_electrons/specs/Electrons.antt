@@ -9,8 +9,7 @@ use lib.ListN.{getD}
 use Rattle.carriage.specs.Carriage.{samplesIn}
 use Rattle.cells.specs.Laying.{laidFrame, layable}
 use Rattle.cells.specs.Raw.{holdsCell, isCell}
-use Rattle.electrons.specs.Questions.{Asked, words, gives}
-use Rattle.c_answers.specs.Answers.{nowhere, noSuchBin, wordsNumber, ValueGiven, RangeGiven}
+use Rattle.c_answers.specs.Answers.{nowhere, noSuchBin, ValueGiven}
 
 -- the frame laid, or "no such place" and the cells as found
 pub record LaidGiven (code : ℕ) (science c : List ℕ) (n : ℕ) (c′ : List ℕ) : Type 0 where
@@ -20,10 +19,6 @@ pub record LaidGiven (code : ℕ) (science c : List ℕ) (n : ℕ) (c′ : List 
 -- the byte of a cell, or the number lent as found
 abbrev pub ByteGiven : List ℕ → ℕ → ℕ → ℕ → ℕ → ℕ → Type 0
 ByteGiven c held p = ValueGiven (isCell c held p) (holdsCell held p) (getD c p 0)
-
--- an answer of the questions: the range, or the number of 01's words
-abbrev pub AskedGiven : Asked → ℕ → ℕ → ℕ → ℕ → ℕ → Type 0
-AskedGiven q = RangeGiven (gives q) (wordsNumber (words q)) (q .range)
 
 -- how many samples a bin has, or LPMAG_NO_SUCH_BIN
 abbrev pub binSamples : ℕ → ℕ

@@ -1,2 +1,1 @@
 pub mod Electrons
-pub mod Handing

@@ -15,12 +15,17 @@ pub extern "C" fn lpmag_step(
     finished_cells: &mut [u8],
     open_samples: &mut [i16],
     finished_samples: &mut [i16],
+    open_snapshot: &mut [u8],
+    first_snapshot: &mut [u8],
+    second_snapshot: &mut [u8],
     r: &[u8],
 ) -> u8
     ensures { λ n. ⌜ StepGiven (now (state .entry)) (now (report .entry))
-        (buffers (now («open_cells» .entry)) (now («finished_cells» .entry)) (now («open_samples» .entry)) (now («finished_samples» .entry)))
+        (buffers (now («open_cells» .entry)) (now («finished_cells» .entry)) (now («open_samples» .entry)) (now («finished_samples» .entry))
+        (now («open_snapshot» .entry)) (now («first_snapshot» .entry)) (now («second_snapshot» .entry)))
         (now (r .entry)) (back n (now (state .exit)) (now (report .exit)))
-        (buffers (now («open_cells» .exit)) (now («finished_cells» .exit)) (now («open_samples» .exit)) (now («finished_samples» .exit))) ⌝ }
+        (buffers (now («open_cells» .exit)) (now («finished_cells» .exit)) (now («open_samples» .exit)) (now («finished_samples» .exit))
+        (now («open_snapshot» .exit)) (now («first_snapshot» .exit)) (now («second_snapshot» .exit))) ⌝ }
 {
     let y = calls::step(
         *state,
@@ -29,6 +34,9 @@ pub extern "C" fn lpmag_step(
         finished_cells,
         open_samples,
         finished_samples,
+        open_snapshot,
+        first_snapshot,
+        second_snapshot,
         r,
     );
     if y.answer == 0 {
@@ -46,12 +54,17 @@ pub extern "C" fn lpmag_feed(
     finished_cells: &mut [u8],
     open_samples: &mut [i16],
     finished_samples: &mut [i16],
+    open_snapshot: &mut [u8],
+    first_snapshot: &mut [u8],
+    second_snapshot: &mut [u8],
     bytes: &[u8],
 ) -> u8
     ensures { λ n. ⌜ FeedGiven (now (state .entry)) (now (fed .entry))
-        (buffers (now («open_cells» .entry)) (now («finished_cells» .entry)) (now («open_samples» .entry)) (now («finished_samples» .entry)))
+        (buffers (now («open_cells» .entry)) (now («finished_cells» .entry)) (now («open_samples» .entry)) (now («finished_samples» .entry))
+        (now («open_snapshot» .entry)) (now («first_snapshot» .entry)) (now («second_snapshot» .entry)))
         (now (bytes .entry)) (backFed n (now (state .exit)) (now (fed .exit)))
-        (buffers (now («open_cells» .exit)) (now («finished_cells» .exit)) (now («open_samples» .exit)) (now («finished_samples» .exit))) ⌝ }
+        (buffers (now («open_cells» .exit)) (now («finished_cells» .exit)) (now («open_samples» .exit)) (now («finished_samples» .exit))
+        (now («open_snapshot» .exit)) (now («first_snapshot» .exit)) (now («second_snapshot» .exit))) ⌝ }
 {
     let y = calls::feed(
         *state,
@@ -60,6 +73,9 @@ pub extern "C" fn lpmag_feed(
         finished_cells,
         open_samples,
         finished_samples,
+        open_snapshot,
+        first_snapshot,
+        second_snapshot,
         bytes,
     );
     if y.answer == 0 {
@@ -77,11 +93,16 @@ pub extern "C" fn lpmag_finish(
     finished_cells: &mut [u8],
     open_samples: &mut [i16],
     finished_samples: &mut [i16],
+    open_snapshot: &mut [u8],
+    first_snapshot: &mut [u8],
+    second_snapshot: &mut [u8],
 ) -> u8
     ensures { λ n. ⌜ FinishGiven (now (state .entry)) (now (closed .entry))
-        (buffers (now («open_cells» .entry)) (now («finished_cells» .entry)) (now («open_samples» .entry)) (now («finished_samples» .entry)))
+        (buffers (now («open_cells» .entry)) (now («finished_cells» .entry)) (now («open_samples» .entry)) (now («finished_samples» .entry))
+        (now («open_snapshot» .entry)) (now («first_snapshot» .entry)) (now («second_snapshot» .entry)))
         (backClosed n (now (state .exit)) (now (closed .exit)))
-        (buffers (now («open_cells» .exit)) (now («finished_cells» .exit)) (now («open_samples» .exit)) (now («finished_samples» .exit))) ⌝ }
+        (buffers (now («open_cells» .exit)) (now («finished_cells» .exit)) (now («open_samples» .exit)) (now («finished_samples» .exit))
+        (now («open_snapshot» .exit)) (now («first_snapshot» .exit)) (now («second_snapshot» .exit))) ⌝ }
 {
     let y = calls::finish(
         *state,
@@ -90,6 +111,9 @@ pub extern "C" fn lpmag_finish(
         finished_cells,
         open_samples,
         finished_samples,
+        open_snapshot,
+        first_snapshot,
+        second_snapshot,
     );
     if y.answer == 0 {
         *state = y.state;

@@ -8,9 +8,9 @@ use lib.ListN.{length}
 use Rattle.buffers.specs.Laying.{patch, hasRoom}
 use Rattle.listing.specs.Refusals.{wordsOf, meaning, meaningSize}
 
--- LPMAG_VERSION: 1.0
+-- LPMAG_VERSION: 2.0
 abbrev pub version : ℕ
-version = 100
+version = 200
 
 abbrev pub roomy : List ℕ → Bool
 roomy room = hasRoom (length room) 0 meaningSize

@@ -14,7 +14,7 @@ use shapes::CFields;
 pub extern "C" fn lpmag_version() -> u32
     ensures { λ n. ⌜ n ≡ version ⌝ }
 {
-    100
+    200
 }
 
 #[no_mangle]

@@ -12,7 +12,7 @@ use Rattle.record.specs.Layout.{packetBytes}
 use Rattle.record.specs.Rules.{broken}
 use Rattle.record.specs.Contents.{recordOf}
 use Rattle.shapes.specs.Fields.{fieldsOut}
-use Rattle.state.specs.Deciding.{numberOf, decidedOf, refusal}
+use Rattle.state.specs.Deciding.{numberOf, decidedOf}
 use Rattle.state.specs.Ending.{endedOf, ending, unended}
 use Rattle.state.specs.List.{listed}
 use Rattle.state.specs.declared.deciding.Decided.{Decided}
@@ -54,7 +54,8 @@ module _ (s : CState) (b c d : Buffers) where
   pub one-feed : (f : CFed) (bytes : List ℕ) (x y : CFeeding) → FeedGiven s f b bytes x c → FeedGiven s f b bytes y d → (x ≡ y) × (c ≡ d)
   one-feed f bytes x y u v = (one (u .result) (v .result), one (u .left) (v .left))
 
--- where the answer isn't 0, what was lent to fields, step, finish or feed is as found (01: "state and all four buffers stay as found")
+-- where the answer isn't 0, what was lent to fields, step, finish or feed is as found (01: "state and all four buffers stay as found",
+-- and so do the three that 02, request 2, adds)
 pub fields-kept : (c : CFields) (r : List ℕ) (y : CContents) → FieldsGiven c r y → (y .answer ≡ 0 → ⊥) → y ≡ backFields (y .answer) c
 fields-kept c r y is z =
     let e = ap (λ (t : Bool). cond t (fieldsOut (recordOf r)) c) (ne-eqb (broken r) 0 (λ n. z (is .number ∙ n))) in

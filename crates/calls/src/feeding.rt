@@ -37,18 +37,26 @@ pub fn feed(
     finished_cells: &mut [u8],
     open_samples: &mut [i16],
     finished_samples: &mut [i16],
+    open_snapshot: &mut [u8],
+    first_snapshot: &mut [u8],
+    second_snapshot: &mut [u8],
     bytes: &[u8],
 ) -> CFeeding
     ensures { λ y. ⌜ FeedGiven state fed
-        (buffers (now («open_cells» .entry)) (now («finished_cells» .entry)) (now («open_samples» .entry)) (now («finished_samples» .entry)))
+        (buffers (now («open_cells» .entry)) (now («finished_cells» .entry)) (now («open_samples» .entry)) (now («finished_samples» .entry))
+        (now («open_snapshot» .entry)) (now («first_snapshot» .entry)) (now («second_snapshot» .entry)))
         (now (bytes .entry)) y
-        (buffers (now («open_cells» .exit)) (now («finished_cells» .exit)) (now («open_samples» .exit)) (now («finished_samples» .exit))) ⌝ }
+        (buffers (now («open_cells» .exit)) (now («finished_cells» .exit)) (now («open_samples» .exit)) (now («finished_samples» .exit))
+        (now («open_snapshot» .exit)) (now («first_snapshot» .exit)) (now («second_snapshot» .exit))) ⌝ }
 {
     let sized = reader::right_sizes(
         open_cells.len(),
         finished_cells.len(),
         open_samples.len(),
         finished_samples.len(),
+        open_snapshot.len(),
+        first_snapshot.len(),
+        second_snapshot.len(),
     );
     if !is_ready(state, sized) {
         return CFeeding {
@@ -63,6 +71,9 @@ pub fn feed(
         finished_cells,
         open_samples,
         finished_samples,
+        open_snapshot,
+        first_snapshot,
+        second_snapshot,
         bytes,
         0,
     );

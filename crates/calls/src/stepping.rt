@@ -67,12 +67,17 @@ pub fn step(
     finished_cells: &mut [u8],
     open_samples: &mut [i16],
     finished_samples: &mut [i16],
+    open_snapshot: &mut [u8],
+    first_snapshot: &mut [u8],
+    second_snapshot: &mut [u8],
     r: &[u8],
 ) -> CStepped
     ensures { λ y. ⌜ StepGiven state report
-        (buffers (now («open_cells» .entry)) (now («finished_cells» .entry)) (now («open_samples» .entry)) (now («finished_samples» .entry)))
+        (buffers (now («open_cells» .entry)) (now («finished_cells» .entry)) (now («open_samples» .entry)) (now («finished_samples» .entry))
+        (now («open_snapshot» .entry)) (now («first_snapshot» .entry)) (now («second_snapshot» .entry)))
         (now (r .entry)) y
-        (buffers (now («open_cells» .exit)) (now («finished_cells» .exit)) (now («open_samples» .exit)) (now («finished_samples» .exit))) ⌝ }
+        (buffers (now («open_cells» .exit)) (now («finished_cells» .exit)) (now («open_samples» .exit)) (now («finished_samples» .exit))
+        (now («open_snapshot» .exit)) (now («first_snapshot» .exit)) (now («second_snapshot» .exit))) ⌝ }
 {
     if !is_state(state) {
         return CStepped {
@@ -87,6 +92,9 @@ pub fn step(
         finished_cells,
         open_samples,
         finished_samples,
+        open_snapshot,
+        first_snapshot,
+        second_snapshot,
         r,
     );
     hand_over(x, state, report)
@@ -117,11 +125,16 @@ pub fn finish(
     finished_cells: &mut [u8],
     open_samples: &mut [i16],
     finished_samples: &mut [i16],
+    open_snapshot: &mut [u8],
+    first_snapshot: &mut [u8],
+    second_snapshot: &mut [u8],
 ) -> CFinished
     ensures { λ y. ⌜ FinishGiven state closed
-        (buffers (now («open_cells» .entry)) (now («finished_cells» .entry)) (now («open_samples» .entry)) (now («finished_samples» .entry)))
+        (buffers (now («open_cells» .entry)) (now («finished_cells» .entry)) (now («open_samples» .entry)) (now («finished_samples» .entry))
+        (now («open_snapshot» .entry)) (now («first_snapshot» .entry)) (now («second_snapshot» .entry)))
         y
-        (buffers (now («open_cells» .exit)) (now («finished_cells» .exit)) (now («open_samples» .exit)) (now («finished_samples» .exit))) ⌝ }
+        (buffers (now («open_cells» .exit)) (now («finished_cells» .exit)) (now («open_samples» .exit)) (now («finished_samples» .exit))
+        (now («open_snapshot» .exit)) (now («first_snapshot» .exit)) (now («second_snapshot» .exit))) ⌝ }
 {
     if !is_state(state) {
         return CFinished {
@@ -136,6 +149,9 @@ pub fn finish(
         finished_cells,
         open_samples,
         finished_samples,
+        open_snapshot,
+        first_snapshot,
+        second_snapshot,
     );
     hand_over_closed(x, state, closed)
 }

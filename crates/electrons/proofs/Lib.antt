@@ -1,3 +1,4 @@
 pub mod Bins
+pub mod Meant
 pub mod Told
 pub mod Single

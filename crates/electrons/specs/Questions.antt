@@ -55,6 +55,10 @@ pub record CountIs (q : Asked) (x : Count) : Type 0 where
   pub says : countSaid x ≡ words q
   pub range : rangeGiven x ≡ cond (gives q) (some (q .range)) none
 
+-- a byte whose counts were divided by a known number: of 3D, Total and Rate, and all of a snapshot (000, sections 2.3.1 and 2.4.1)
+abbrev pub countAsked : Bool → Bool → ℕ → Divided → Asked
+countAsked place held code d = record { place = place; held = held; known = true; range = rangeOf code d }
+
 -- the header's cells
 abbrev pub stateCell : ℕ
 stateCell = 1
@@ -94,14 +98,8 @@ abbrev pub hasThree : ℕ → ℕ → Bool
 hasThree e b = ltb e 15 && ltb b 88
 
 abbrev pub threeAsked : List ℕ → ℕ → ℕ → ℕ → Asked
-threeAsked c held e b =
-    record {
-      place = askable c held && hasThree e b;
-      held = holdsCell held (threeCell e b);
-      known = true;
-      range = rangeOf (getD c (threeCell e b) 0) By1;
-    }
+threeAsked c held e b = countAsked (askable c held && hasThree e b) (holdsCell held (threeCell e b)) (getD c (threeCell e b) 0) By1
 
 -- "Total and Rate (header bytes 2 and 3) are 16 x low to 16 x high + 15"
 abbrev pub headerAsked : ℕ → List ℕ → ℕ → Asked
-headerAsked p c held = record { place = askable c held; held = holdsCell held p; known = true; range = rangeOf (getD c p 0) By16 }
+headerAsked p c held = countAsked (askable c held) (holdsCell held p) (getD c p 0) By16

@@ -5,7 +5,9 @@ mod scale;
 
 pub use places::samples_in;
 pub use questions::Count;
+pub use questions::meaning_of;
 pub use questions::rate;
 pub use questions::sample;
 pub use questions::three_d;
 pub use questions::total;
+pub use scale::Scale;

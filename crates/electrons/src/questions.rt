@@ -1,8 +1,8 @@
 // The questions, and what a raw cell means (01, "Counts").
 ghost use mathlib.Core.Path.{_≡_};
 ghost use Prim.Native.Nat.{_<_};
+ghost use Rattle.electrons.specs.Meaning.{meaning};
 ghost use Rattle.electrons.specs.Questions.{CountIs, totalCell, rateCell, sampleAsked, threeAsked, headerAsked};
-ghost use Rattle.electrons.specs.Steps.{meaning};
 use crate::scale::Scale;
 use cells::Raw;
 use counts::Divided;
@@ -16,7 +16,8 @@ pub enum Count {
     NoSuchPlace,
 }
 
-fn meaning_of(raw: Raw, scale: Scale) -> Count
+// What a raw byte means, of an accumulation or of a snapshot.
+pub fn meaning_of(raw: Raw, scale: Scale) -> Count
     ensures { λ x. ⌜ x ≡ meaning raw scale ⌝ }
 {
     match raw {

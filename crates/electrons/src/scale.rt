@@ -5,6 +5,7 @@ ghost use Rattle.electrons.specs.Steps.{scaleOf};
 use cells::Raw;
 use counts::Divided;
 
+// What a byte's counts were divided by, or that the header byte which would say so isn't held.
 pub enum Scale {
     Known(Divided),
     Unknown,

@@ -25,11 +25,13 @@ abbrev pub told : ℕ → ℕ → Stepped → Fed
 told at n x = record { from = at; at = at + n; rule = answerNumber (x .answer); state = x .state; closed = x .closed }
 
 -- accepted, and closed nothing
-unfoldable pub isQuiet : ℕ → Bool → Bool → Bool
-isQuiet rule major accumulation = eqb rule 0 && (not major && not accumulation)
+unfoldable pub isQuiet : ℕ → Bool → Bool → Bool → Bool → Bool
+isQuiet rule major accumulation first second = eqb rule 0 && (not major && (not accumulation && (not first && not second)))
 
 abbrev pub quiet : Fed → Bool
-quiet f = isQuiet (f .rule) (f .closed .major .closed) (f .closed .accumulation .closed)
+quiet f =
+    isQuiet (f .rule) (f .closed .major .closed) (f .closed .accumulation .closed) (f .closed .«first_snapshot» .closed)
+    (f .closed .«second_snapshot» .closed)
 
 -- what was told last, and the lent buffers
 pub record Desk : Type 0 where

@@ -42,16 +42,16 @@ fn rule_of(answer: Answer) -> u8
 }
 
 // Was the last record accepted, and closed nothing?
-fn is_quiet(rule: u8, major_closed: bool, accumulation_closed: bool) -> bool
-    ensures { λ b. ⌜ b ≡ isQuiet rule «major_closed» «accumulation_closed» ⌝ }
+fn is_quiet(
+    rule: u8,
+    major_closed: bool,
+    accumulation_closed: bool,
+    first_closed: bool,
+    second_closed: bool,
+) -> bool
+    ensures { λ b. ⌜ b ≡ isQuiet rule «major_closed» «accumulation_closed» «first_closed» «second_closed» ⌝ }
 {
-    if rule != 0 {
-        return false;
-    }
-    if major_closed {
-        return false;
-    }
-    !accumulation_closed
+    (rule == 0) & (!major_closed & (!accumulation_closed & (!first_closed & !second_closed)))
 }
 
 // Takes the record that begins at place `at`, whole or not.
@@ -61,13 +61,18 @@ pub fn feed_one(
     finished_cells: &mut [u8],
     open_samples: &mut [i16],
     finished_samples: &mut [i16],
+    open_snapshot: &mut [u8],
+    first_snapshot: &mut [u8],
+    second_snapshot: &mut [u8],
     bytes: &[u8],
     at: usize,
 ) -> Fed
     ensures { λ x. ⌜ OneIs state
-        (buffers (now («open_cells» .entry)) (now («finished_cells» .entry)) (now («open_samples» .entry)) (now («finished_samples» .entry)))
+        (buffers (now («open_cells» .entry)) (now («finished_cells» .entry)) (now («open_samples» .entry)) (now («finished_samples» .entry))
+        (now («open_snapshot» .entry)) (now («first_snapshot» .entry)) (now («second_snapshot» .entry)))
         (now (bytes .entry)) at x
-        (buffers (now («open_cells» .exit)) (now («finished_cells» .exit)) (now («open_samples» .exit)) (now («finished_samples» .exit))) ⌝ }
+        (buffers (now («open_cells» .exit)) (now («finished_cells» .exit)) (now («open_samples» .exit)) (now («finished_samples» .exit))
+        (now («open_snapshot» .exit)) (now («first_snapshot» .exit)) (now («second_snapshot» .exit))) ⌝ }
 {
     let r = cut(bytes, at);
     let end = at + r.len();
@@ -77,6 +82,9 @@ pub fn feed_one(
         finished_cells,
         open_samples,
         finished_samples,
+        open_snapshot,
+        first_snapshot,
+        second_snapshot,
         r,
     );
     let answer = stepped.answer;
@@ -98,13 +106,18 @@ pub fn feed(
     finished_cells: &mut [u8],
     open_samples: &mut [i16],
     finished_samples: &mut [i16],
+    open_snapshot: &mut [u8],
+    first_snapshot: &mut [u8],
+    second_snapshot: &mut [u8],
     bytes: &[u8],
     at: usize,
 ) -> Fed
     ensures { λ x. ⌜ FeedIs state
-        (buffers (now («open_cells» .entry)) (now («finished_cells» .entry)) (now («open_samples» .entry)) (now («finished_samples» .entry)))
+        (buffers (now («open_cells» .entry)) (now («finished_cells» .entry)) (now («open_samples» .entry)) (now («finished_samples» .entry))
+        (now («open_snapshot» .entry)) (now («first_snapshot» .entry)) (now («second_snapshot» .entry)))
         (now (bytes .entry)) at x
-        (buffers (now («open_cells» .exit)) (now («finished_cells» .exit)) (now («open_samples» .exit)) (now («finished_samples» .exit))) ⌝ }
+        (buffers (now («open_cells» .exit)) (now («finished_cells» .exit)) (now («open_samples» .exit)) (now («finished_samples» .exit))
+        (now («open_snapshot» .exit)) (now («first_snapshot» .exit)) (now («second_snapshot» .exit))) ⌝ }
 {
     let mut fed = begin(state, at);
     while is_whole(bytes.len(), fed.at)
@@ -112,6 +125,8 @@ pub fn feed(
             fed.rule,
             fed.closed.major.closed,
             fed.closed.accumulation.closed,
+            fed.closed.first_snapshot.closed,
+            fed.closed.second_snapshot.closed,
         )
     {
         fed = feed_one(
@@ -120,6 +135,9 @@ pub fn feed(
             finished_cells,
             open_samples,
             finished_samples,
+            open_snapshot,
+            first_snapshot,
+            second_snapshot,
             bytes,
             fed.at,
         );

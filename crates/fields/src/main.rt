@@ -25,6 +25,8 @@ fn number(n: u64) -> bool {
 fn print_kind(kind: Kind) -> bool {
     match kind {
         Kind::RealTime(_) => text(b" real-time"),
+        Kind::HalfBurst => text(b" half-burst"),
+        Kind::FullBurst => text(b" full-burst"),
         Kind::Other => text(b" other"),
         Kind::Undefined => text(b" undefined"),
     }
@@ -55,6 +57,7 @@ fn print_frame(f: Record) -> bool {
     number(f.frame_code as u64)
         && number(f.frame_type as u64)
         && print_kind(kind)
+        && number(f.second_code as u64)
         && number(f.subcom as u64)
 }
 
@@ -121,7 +124,7 @@ fn next(n: u64) -> bool {
 
 fn main() {
     if !written(text(
-        b"record answer count day millisecond flags code type kind subcom level quality\n",
+        b"record answer count day millisecond flags code type kind second subcom level quality\n",
     )) {
         return;
     }

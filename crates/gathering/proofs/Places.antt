@@ -42,7 +42,7 @@ module _ {I : Type 0} where
   behind-at (x ∷ g) h zero j f e a = absurd (omega arith)
   behind-at (x ∷ g) h (suc i) j f e a = behind-at g h i j f (omega arith) a
 
-  at-in : (g : List I) (i : ℕ) (f : I) → At i f g → In f g
+  pub at-in : (g : List I) (i : ℕ) (f : I) → At i f g → In f g
   unfolding At Some
   at-in [] i f a = absurd a
   at-in (x ∷ g) zero f a = inl a

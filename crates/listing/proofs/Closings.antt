@@ -1,9 +1,10 @@
 -- What closed, as lines: none where nothing did.
 -- Assumes nothing.
 use mathlib.Core.Path.{_≡_, refl, sym, subst}
-use mathlib.Core.Bool.{Bool, true, false, not}
+use mathlib.Core.Bool.{Bool, true, false, cond, not, _&&_}
 use mathlib.Core.List.{List, []}
-use Prim.Native.Nat.{ℕ, _*_, _^_, _<_, _≤_}
+use Prim.Native.Nat.{ℕ, _+_, _*_, _^_, _<_, _≤_}
+use native.Mathlib.Nat.{mul-le-mul}
 use native.Mathlib.Omega.{arith}
 use lib.Count.{ones}
 use lib.Dec.{eqb, ltb}
@@ -14,17 +15,19 @@ use Rattle.accumulation.specs.declared.AccumulationReport.{AccumulationReport}
 use Rattle.major.specs.Major.{majorOpen, majorReported}
 use Rattle.major.specs.declared.MajorReport.{MajorReport}
 use Rattle.major.proofs.Facts.{slots-of, current-slot}
+use Rattle.snapshot.specs.declared.SnapshotReport.{SnapshotReport}
 use Rattle.state.specs.List.{listed}
 use Rattle.state.specs.declared.State.{State}
 use Rattle.state.specs.declared.closed.Closed.{Closed}
 use Rattle.state.proofs.Facts.{facts}
 use Rattle.listing.specs.Text.{ascii, Put}
-use Rattle.listing.specs.Lines.{lineSize, lineOf, frameLine, majorLine, accumLine, closedLines, closedSize}
-use Rattle.listing.proofs.Puts.{put-none}
+use Rattle.listing.specs.Lines.{wordSize, lineSize, lineOf, slotsHeld, samplesHeld, frameLine, majorLine, framesHeld, cellsHeld, accumLine}
+use Rattle.listing.specs.Lines.{packetsHeld, snapCellsHeld, snapLine, closedLines, closedSize}
+use Rattle.listing.proofs.Puts.{put-none, put-then, room-after}
 use Rattle.listing.proofs.Digits.{length-decimal}
 
 -- the longest line
-pub length-line : (word : List ℕ) (first frames cells : ℕ) → length word ≡ 5 → length (lineOf word first frames cells) ≤ lineSize
+pub length-line : (word : List ℕ) (first frames cells : ℕ) → length word ≤ wordSize → length (lineOf word first frames cells) ≤ lineSize
 unfolding lineOf
 length-line word first frames cells h =
     let a = length-decimal first in
@@ -32,13 +35,35 @@ length-line word first frames cells h =
     let c = length-decimal cells in
     simp length-append (omega (arith, h, a, b, c))
 
-accum-open : (r : AccumulationReport) → r .closed ≡ false → accumLine r ≡ []
-unfolding accumLine
-accum-open r e = rw e refl
+-- where it closed, and where not
+length-gathered : (word : List ℕ) (closed : Bool) (first frames cells : ℕ) → length word ≤ wordSize
+    → length (cond closed (lineOf word first frames cells) []) ≤ lineSize
+length-gathered word true first frames cells h = length-line word first frames cells h
+length-gathered word false first frames cells h = omega arith
 
-accum-closed : (r : AccumulationReport) → r .closed ≡ true → accumLine r ≡ lineOf (ascii "accum") (r .first) (ones (r .held)) (83 * ones (r .held))
+length-accum : (r : AccumulationReport) → length (accumLine r) ≤ lineSize
 unfolding accumLine
-accum-closed r e = rw e refl
+length-accum r = length-gathered (ascii "accum") (r .closed) (r .first) (framesHeld r) (cellsHeld r) (omega arith)
+
+length-snap : (r : SnapshotReport) → length (snapLine r) ≤ lineSize
+unfolding snapLine
+length-snap r = length-gathered (ascii "snap") (r .closed) (r .first) (packetsHeld r) (snapCellsHeld r) (omega arith)
+
+length-major : (r : MajorReport) → length (majorLine r) ≤ lineSize
+unfolding majorLine frameLine
+length-major r =
+    let m = r .frame in
+    length-gathered (ascii "major") (r .closed && ltb (16 * m .number) (2 ^ 64)) (16 * m .number) (slotsHeld m) (samplesHeld m) (omega arith)
+
+-- "no line too long for its buffer, whatever the counts"
+pub length-closed : (c : Closed) → length (closedLines c) ≤ closedSize
+unfolding closedLines
+length-closed c =
+    let m = length-major (c .major) in
+    let a = length-accum (c .accumulation) in
+    let s = length-snap (c .«first_snapshot») in
+    let t = length-snap (c .«second_snapshot») in
+    simp length-append (omega (arith, m, a, s, t))
 
 major-open : (r : MajorReport) → r .closed ≡ false → majorLine r ≡ []
 unfolding majorLine
@@ -57,8 +82,8 @@ module _ (d : List ℕ) (at : ℕ) where
   nothing : (text : List ℕ) → text ≡ [] → at ≤ length d → Put d at text d at
   nothing text e h = subst (λ (t : List ℕ). Put d at t d at) (sym e) (put-none d at h)
 
-  pub accum-none : (r : AccumulationReport) → at ≤ length d → not (r .closed) ≡ true → Put d at (accumLine r) d at
-  accum-none r h e = nothing (accumLine r) (accum-open r (not-true (r .closed) e)) h
+  pub gathered-none : (closed : Bool) (line : List ℕ) → at ≤ length d → not closed ≡ true → Put d at (cond closed line []) d at
+  gathered-none closed line h e = nothing (cond closed line []) (rw (not-true closed e) refl) h
 
   pub major-none : (r : MajorReport) → at ≤ length d → not (r .closed) ≡ true → Put d at (majorLine r) d at
   major-none r h e = nothing (majorLine r) (major-open r (not-true (r .closed) e)) h
@@ -67,9 +92,8 @@ module _ (d : List ℕ) (at : ℕ) where
   major-far r h e l = nothing (majorLine r) (major-past r (not-false (r .closed) e) (omega arith)) h
 
   -- else its line is
-  pub accum-put : (r : AccumulationReport) (e : List ℕ) (p : ℕ) → not (r .closed) ≡ false
-      → Put d at (lineOf (ascii "accum") (r .first) (ones (r .held)) (83 * ones (r .held))) e p → Put d at (accumLine r) e p
-  accum-put r e p c q = subst (λ (t : List ℕ). Put d at t e p) (sym (accum-closed r (not-false (r .closed) c))) q
+  pub gathered-put : (closed : Bool) (line e : List ℕ) (p : ℕ) → not closed ≡ false → Put d at line e p → Put d at (cond closed line []) e p
+  gathered-put closed line e p c q = rw (not-false closed c) q
 
   pub major-put : (r : MajorReport) (e : List ℕ) (p : ℕ) → not (r .closed) ≡ false → r .frame .number < 2 ^ 60
       → Put d at (lineOf (ascii "major") (16 * r .frame .number) (ones (r .frame .slots)) (54 * ones (r .frame .«mag_slots»))) e p
@@ -77,30 +101,34 @@ module _ (d : List ℕ) (at : ℕ) where
   unfolding frameLine
   major-put r e p c l q = subst (λ (t : List ℕ). Put d at t e p) (sym (major-closed r (not-false (r .closed) c) (omega arith))) q
 
-length-accum : (r : AccumulationReport) (b : Bool) → r .closed ≡ b → length (accumLine r) ≤ lineSize
-length-accum r true e =
-    let l = length-line (ascii "accum") (r .first) (ones (r .held)) (83 * ones (r .held)) refl in
-    subst (λ (t : List ℕ). length t ≤ lineSize) (sym (accum-closed r e)) l
-length-accum r false e = subst (λ (t : List ℕ). length t ≤ lineSize) (sym (accum-open r e)) (omega arith)
+-- no number of cells leaves 64 bits
+pub cells-fit : (each n : ℕ) → each < 2 ^ 8 → ones n ≤ 64 → each * ones n < 2 ^ 64
+cells-fit each n h k =
+    let p : each * ones n ≤ 255 * 64 = mul-le-mul {n₂ = 255} (omega arith) k in
+    omega (arith, p)
 
-length-frame : (r : MajorReport) (b c : Bool) → r .closed ≡ b → ltb (16 * r .frame .number) (2 ^ 64) ≡ c → length (majorLine r) ≤ lineSize
-unfolding majorLine frameLine
-length-frame r true true e f =
-    rw (e, f) (length-line (ascii "major") (16 * r .frame .number) (ones (r .frame .slots)) (54 * ones (r .frame .«mag_slots»)) refl)
-length-frame r true false e f = rw (e, f) (omega arith)
-length-frame r false c e f = rw e (omega arith)
+-- the lines, each put where the one before ends; what is free after each is a line's room for every one that may follow
+module _ (c : Closed) {d : List ℕ} {at : ℕ} (h : at + closedSize ≤ length d)
+    {d₁ : List ℕ} {p₁ : ℕ} (m : Put d at (majorLine (c .major)) d₁ p₁) where
+  pub after-major : p₁ + 3 * lineSize ≤ length d₁
+  after-major = room-after m (3 * lineSize) (omega (arith, h, length-major (c .major)))
 
-pub length-major : (r : MajorReport) → length (majorLine r) ≤ lineSize
-length-major r = length-frame r (r .closed) (ltb (16 * r .frame .number) (2 ^ 64)) refl refl
+  module _ {d₂ : List ℕ} {p₂ : ℕ} (a : Put d₁ p₁ (accumLine (c .accumulation)) d₂ p₂) where
+    pub after-accum : p₂ + 2 * lineSize ≤ length d₂
+    after-accum = room-after a (2 * lineSize) (omega (arith, after-major, length-accum (c .accumulation)))
 
--- "no line too long for its buffer, whatever the counts"
-pub length-closed : (c : Closed) → length (closedLines c) ≤ closedSize
-unfolding closedLines
-length-closed c =
-    let a = c .accumulation in
-    simp length-append (omega (arith, length-major (c .major), length-accum a (a .closed) refl))
+    module _ {d₃ : List ℕ} {p₃ : ℕ} (s : Put d₂ p₂ (snapLine (c .«first_snapshot»)) d₃ p₃) where
+      pub after-first : p₃ + lineSize ≤ length d₃
+      after-first = room-after s lineSize (omega (arith, after-accum, length-snap (c .«first_snapshot»)))
 
--- no line is left out: a major frame that closes from a state that keeps 01's list has its number below 2^20
+      pub closed-put : {d₄ : List ℕ} {p₄ : ℕ} → Put d₃ p₃ (snapLine (c .«second_snapshot»)) d₄ p₄ → Put d at (closedLines c) d₄ p₄
+      unfolding closedLines
+      closed-put t =
+          put-then m (omega (arith, h, length-major (c .major)))
+          (put-then a (omega (arith, after-major, length-accum (c .accumulation)))
+          (put-then s (omega (arith, after-accum, length-snap (c .«first_snapshot»))) t))
+
+-- no line is left out: a major frame that closes from a state that keeps 01's list has its number below 2^32
 pub always-listed : (s : State) → listed s ≡ true → majorOpen (s .major) ≡ true → majorLine (majorReported (s .major)) ≡ frameLine (s .major)
 unfolding majorLine
 always-listed s h o =

@@ -30,10 +30,10 @@ unfoldable pub text : List ℕ
 text = joined words
 
 abbrev pub textSize : ℕ
-textSize = 324
+textSize = 369
 
 unfoldable pub ends : List ℕ
-ends = 0 ∷ 67 ∷ 83 ∷ 95 ∷ 124 ∷ 136 ∷ 150 ∷ 167 ∷ 195 ∷ 220 ∷ 238 ∷ 251 ∷ 307 ∷ 307 ∷ 324 ∷ []
+ends = 0 ∷ 67 ∷ 83 ∷ 95 ∷ 124 ∷ 136 ∷ 150 ∷ 167 ∷ 195 ∷ 220 ∷ 238 ∷ 296 ∷ 352 ∷ 352 ∷ 369 ∷ []
 
 abbrev pub endOf : ℕ → ℕ
 endOf k = getD ends k 0

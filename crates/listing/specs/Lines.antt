@@ -7,9 +7,11 @@ use lib.Count.{ones}
 use lib.Dec.{ltb}
 use Rattle.mag.specs.Samples.{samplesSize}
 use Rattle.carriage.specs.Carriage.{scienceSize}
+use Rattle.bursts.specs.Bursts.{burstSize}
 use Rattle.accumulation.specs.declared.AccumulationReport.{AccumulationReport}
 use Rattle.major.specs.declared.Major.{Major}
 use Rattle.major.specs.declared.MajorReport.{MajorReport}
+use Rattle.snapshot.specs.declared.SnapshotReport.{SnapshotReport}
 use Rattle.state.specs.declared.closed.Closed.{Closed}
 use Rattle.listing.specs.Text.{ascii, space}
 use Rattle.listing.specs.Decimal.{decimal, digits}
@@ -28,6 +30,7 @@ spaced n rest = (space ∷ decimal n) ++ rest
 unfoldable pub lineOf : List ℕ → ℕ → ℕ → ℕ → List ℕ
 lineOf word first frames cells = word ++ spaced first (spaced frames (spaced cells (ascii "\n")))
 
+-- the longest word
 abbrev pub wordSize : ℕ
 wordSize = 5
 
@@ -60,12 +63,23 @@ cellsHeld r = scienceSize * framesHeld r
 unfoldable pub accumLine : AccumulationReport → List ℕ
 accumLine r = cond (r .closed) (lineOf (ascii "accum") (r .first) (framesHeld r) (cellsHeld r)) []
 
--- "One record may close both; the major frame is reported first."
+-- "the listing says snap, 82 cells a packet" (02, request 2); the rest "as for accumulations"
+abbrev pub packetsHeld : SnapshotReport → ℕ
+packetsHeld r = ones (r .held)
+
+abbrev pub snapCellsHeld : SnapshotReport → ℕ
+snapCellsHeld r = burstSize * packetsHeld r
+
+unfoldable pub snapLine : SnapshotReport → List ℕ
+snapLine r = cond (r .closed) (lineOf (ascii "snap") (r .first) (packetsHeld r) (snapCellsHeld r)) []
+
+-- "One record may close both; the major frame is reported first." "A frame can close two" snapshots, "reported last", in the order in
+-- which they close
 unfoldable pub closedLines : Closed → List ℕ
-closedLines c = majorLine (c .major) ++ accumLine (c .accumulation)
+closedLines c = majorLine (c .major) ++ (accumLine (c .accumulation) ++ (snapLine (c .«first_snapshot») ++ snapLine (c .«second_snapshot»)))
 
 abbrev pub closedSize : ℕ
-closedSize = 2 * lineSize
+closedSize = 4 * lineSize
 
 -- "the last line counts them"
 unfoldable pub refusedLine : ℕ → List ℕ

@@ -8,8 +8,8 @@ use Rattle.listing.specs.Text.{ascii, space}
 use Rattle.listing.specs.Decimal.{decimal, digits}
 use Rattle.listing.specs.Lines.{spaced}
 
--- 01, "Numbers a refused record gets": the second column, by the number; of 12 and 14 what 02 says that they mean (request 1). 0 is
--- no number and has no words, and 13 is none that an answer has (02, request 11)
+-- 01, "Numbers a refused record gets": the second column, by the number; of 12 and 14 what 02 says that they mean (request 1), and of
+-- 11 what it adds (request 2). 0 is no number and has no words, and 13 is none that an answer has (02, request 11)
 abbrev pub words : List String
 words =
     ""
@@ -23,7 +23,7 @@ words =
     ∷ "millisecond above 86,399,999"
     ∷ "a spare status bit is set"
     ∷ "a flag is 00 or 11"
-    ∷ "type is 58-61"
+    ∷ "type is 58-61, or a second type other than 36 to 57 and 62"
     ∷ "something was accepted before and the record isn't later"
     ∷ ""
     ∷ "a turn past 4,095"

@@ -15,9 +15,9 @@ pub use refusals::put_refusal;
 // The bytes of the header line.
 pub const HEADER: usize = 24;
 
-// The most bytes of what one record closes: a line for each, of a word of five letters, three numbers of up to 20 digits, a space
-// before each, and the line's end.
-pub const CLOSED: usize = 138;
+// The most bytes of what one record closes: a line for each of up to four, of a word of up to five letters, three numbers of up to 20
+// digits, a space before each, and the line's end.
+pub const CLOSED: usize = 276;
 
 // The most bytes of the last line.
 pub const REFUSED: usize = 29;

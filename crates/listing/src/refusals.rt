@@ -11,7 +11,7 @@ use buffers::has_room;
 
 // The words, those of each number after those of the one before, from 1 to 14, of which 13 has none; and where they end, from no
 // number on.
-const WORDS: [u8; 324] = *b"\
+const WORDS: [u8; 369] = *b"\
     a lent buffer isn't of its size, or the state breaks the list below\
     length isn't 472\
     sync differs\
@@ -22,7 +22,7 @@ const WORDS: [u8; 324] = *b"\
     millisecond above 86,399,999\
     a spare status bit is set\
     a flag is 00 or 11\
-    type is 58-61\
+    type is 58-61, or a second type other than 36 to 57 and 62\
     something was accepted before and the record isn't later\
     a turn past 4,095";
 
@@ -38,10 +38,10 @@ const ENDS: [usize; 15] = [
     195,
     220,
     238,
-    251,
-    307,
-    307,
-    324,
+    296,
+    352,
+    352,
+    369,
 ];
 
 // The words for a number that an answer has; none for any other.

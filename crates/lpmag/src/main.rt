@@ -34,6 +34,9 @@ fn read_all(
     finished_cells: &mut [u8],
     open_samples: &mut [i16],
     finished_samples: &mut [i16],
+    open_snapshot: &mut [u8],
+    first_snapshot: &mut [u8],
+    second_snapshot: &mut [u8],
 ) -> Read {
     let mut run = run;
     let mut state = state;
@@ -47,6 +50,9 @@ fn read_all(
             finished_cells,
             open_samples,
             finished_samples,
+            open_snapshot,
+            first_snapshot,
+            second_snapshot,
             &bytes[..have],
             run.at,
         );
@@ -61,6 +67,62 @@ fn read_all(
     }
 }
 
+// What the rest below a record has to tell.
+fn end_input(
+    read: Read,
+    bytes: &[u8],
+    page: &mut [u8],
+    open_cells: &mut [u8],
+    finished_cells: &mut [u8],
+    open_samples: &mut [i16],
+    finished_samples: &mut [i16],
+    open_snapshot: &mut [u8],
+    first_snapshot: &mut [u8],
+    second_snapshot: &mut [u8],
+) -> Run {
+    let run = read.run;
+    let have = within(run.have, bytes);
+    let rest = feed::feed_one(
+        read.state,
+        open_cells,
+        finished_cells,
+        open_samples,
+        finished_samples,
+        open_snapshot,
+        first_snapshot,
+        second_snapshot,
+        &bytes[..have],
+        run.at,
+    );
+    run::tell_rest(run, rest, page)
+}
+
+// What finish closes, and the last line. Answers whether all could be read and written.
+fn end_listing(
+    run: Run,
+    state: State,
+    page: &mut [u8],
+    open_cells: &mut [u8],
+    finished_cells: &mut [u8],
+    open_samples: &mut [i16],
+    finished_samples: &mut [i16],
+    open_snapshot: &mut [u8],
+    first_snapshot: &mut [u8],
+    second_snapshot: &mut [u8],
+) -> bool {
+    let finished = reader::finish(
+        state,
+        open_cells,
+        finished_cells,
+        open_samples,
+        finished_samples,
+        open_snapshot,
+        first_snapshot,
+        second_snapshot,
+    );
+    run::end(run, finished, page)
+}
+
 // The listing of all that can be read; answers whether that was everything.
 fn list(options: Options) -> bool {
     let mut bytes = [0u8; INPUT];
@@ -69,6 +131,9 @@ fn list(options: Options) -> bool {
     let mut finished_cells = [0u8; cells::SIZE];
     let mut open_samples = [0i16; reader::SAMPLES];
     let mut finished_samples = [0i16; reader::SAMPLES];
+    let mut open_snapshot = [0u8; bursts::SNAPSHOT];
+    let mut first_snapshot = [0u8; bursts::SNAPSHOT];
+    let mut second_snapshot = [0u8; bursts::SNAPSHOT];
     let begun = run::begin(options, &mut page);
     let read = read_all(
         begun,
@@ -79,28 +144,35 @@ fn list(options: Options) -> bool {
         &mut finished_cells,
         &mut open_samples,
         &mut finished_samples,
+        &mut open_snapshot,
+        &mut first_snapshot,
+        &mut second_snapshot,
     );
-    let run = read.run;
-    let have = within(run.have, &bytes);
-    let rest = feed::feed_one(
-        read.state,
+    let run = end_input(
+        read,
+        &bytes,
+        &mut page,
         &mut open_cells,
         &mut finished_cells,
         &mut open_samples,
         &mut finished_samples,
-        &bytes[..have],
-        run.at,
+        &mut open_snapshot,
+        &mut first_snapshot,
+        &mut second_snapshot,
     );
-    let tailed = run::tell_rest(run, rest, &mut page);
     // from the state before the rest: that is refused, unless output failed, and then nothing more is printed
-    let finished = reader::finish(
+    end_listing(
+        run,
         read.state,
+        &mut page,
         &mut open_cells,
         &mut finished_cells,
         &mut open_samples,
         &mut finished_samples,
-    );
-    run::end(tailed, finished, &mut page)
+        &mut open_snapshot,
+        &mut first_snapshot,
+        &mut second_snapshot,
+    )
 }
 
 fn main() {

@@ -21,6 +21,8 @@ The listing, on standard output:
                             54 magnetometer numbers for each slot that has them
   accum F N C               an electron accumulation: the count of its first
                             frame, the frames held, 83 cells for each
+  snap F N C                a burst snapshot: the count of the frame with its
+                            first packet, the packets held, 82 cells for each
   refused N                 the last line: how many records were refused
 Counts go on where those of the records restart at 0: 16777216 more each time.
 

@@ -1,7 +1,7 @@
 -- What the promises of step and finish say, in the words of the demands and of 01.
 -- Assumes nothing.
 use mathlib.Core.Path.{_≡_, refl, sym, ap, subst⁻¹, _∙_}
-use mathlib.Core.Bool.{Bool, true, false, not, cond, _&&_}
+use mathlib.Core.Bool.{Bool, true, false, not, cond, _&&_, _||_, and-false, or-false}
 use mathlib.Core.List.{List, []}
 use Prim.Native.Nat.{ℕ, _<_}
 use native.Mathlib.Omega.{arith}
@@ -12,6 +12,8 @@ use Rattle.record.specs.Layout.{packetBytes}
 use Rattle.record.specs.Frame.{carriesMag}
 use Rattle.accumulation.specs.Accumulation.{unreported, clearsFor, laysFor}
 use Rattle.major.specs.Major.{majorUnreported, slotOf, continues}
+use Rattle.snapshot.specs.Snapshot as snapshot
+use Rattle.snapshot.specs.declared.PacketWork.{PacketWork}
 use Rattle.state.specs.Closed.{nothingClosed}
 use Rattle.state.specs.List.{listed}
 use Rattle.state.specs.Deciding.{Input, fieldsOf, countAt, readerRules, numberOf, refusal, decidedOf, answerNumber}
@@ -29,8 +31,13 @@ use Rattle.state.proofs.Numbers.{exactly, refused-is}
 use Rattle.state.proofs.Told.{samples-mag, samples-slot, samples-first}
 use Rattle.state.proofs.Closing.{step-closes, end-closes, end-clears, cells-by-gap}
 use Rattle.state.proofs.Keeping.{step-sound, end-sound}
-use Rattle.reader.specs.Buffers.{Buffers, sized, clearedBy, frameLaidBy, slotLaidBy, worked}
+use Rattle.reader.specs.Buffers.{Buffers, sized, copiedBy, clearedBy, frameLaidBy, slotLaidBy, afterFirst, worked}
 use Rattle.reader.specs.Steps.{input, StepIs, FinishIs}
+
+-- into the first finished snapshot goes what one of the two packets closes
+first-by : (a t : Bool) (c d f : List ℕ) → cond a c (copiedBy t d f) ≡ cond (a || t) (cond a c d) f
+first-by true t c d f = refl
+first-by false t c d f = refl
 
 module _ (s : State) (b b′ : Buffers) where
   -- "A refusal carries its number and changes neither the state nor any lent buffer": and nothing is reported
@@ -72,7 +79,37 @@ module _ (s : State) (b b′ : Buffers) where
     pub finished-samples : b′ .finishedSamples ≡ cond (x .closed .major .closed) (b .openSamples) (b .finishedSamples)
     finished-samples = ap (λ (y : Buffers). y .finishedSamples) (is .left) ∙ rw samples-copied
 
+    -- the snapshots: what closes first goes into the first finished one, and what closes after it into the second
+    pub finished-first : b′ .firstSnapshot
+        ≡ cond (x .closed .«first_snapshot» .closed)
+        (cond (decidedOf i .works .one .work .copies) (b .openSnapshot) (afterFirst (decidedOf i .works .one) (packetBytes r) (b .openSnapshot)))
+        (b .firstSnapshot)
+    finished-first =
+        let w = decidedOf i .works in
+        let o = b .openSnapshot in
+        let d = afterFirst (w .one) (packetBytes r) o in
+        ap (λ (y : Buffers). y .firstSnapshot) (is .left)
+        ∙ first-by (w .one .work .copies) (w .two .work .copies) o d (b .firstSnapshot)
+        ∙ ap (λ (t : Bool). cond t (cond (w .one .work .copies) o d) (b .firstSnapshot))
+        (sym (ap (λ (y : Closed). y .«first_snapshot» .closed) closed-is ∙ step-closes i .snapshots .first-closed))
+
+    pub finished-second : b′ .secondSnapshot
+        ≡ cond (x .closed .«second_snapshot» .closed) (afterFirst (decidedOf i .works .one) (packetBytes r) (b .openSnapshot)) (b .secondSnapshot)
+    finished-second =
+        ap (λ (y : Buffers). y .secondSnapshot) (is .left)
+        ∙ rw (sym (step-closes i .snapshots .second-closed), sym (ap (λ (y : Closed). y .«second_snapshot» .closed) closed-is))
+
     -- what didn't close is all 0
+    pub first-nothing : x .closed .«first_snapshot» .closed ≡ false → x .closed .«first_snapshot» ≡ snapshot.unreported
+    first-nothing e =
+        let q = ap (λ (y : Closed). y .«first_snapshot») closed-is in
+        q ∙ step-closes i .snapshots .no-first (sym (ap (λ (y : Closed). y .«first_snapshot» .closed) closed-is) ∙ e)
+
+    pub second-nothing : x .closed .«second_snapshot» .closed ≡ false → x .closed .«second_snapshot» ≡ snapshot.unreported
+    second-nothing e =
+        let q = ap (λ (y : Closed). y .«second_snapshot») closed-is in
+        q ∙ step-closes i .snapshots .no-second (sym (ap (λ (y : Closed). y .«second_snapshot» .closed) closed-is) ∙ e)
+
     pub major-nothing : x .closed .major .closed ≡ false → x .closed .major ≡ majorUnreported
     major-nothing e =
         let q = ap (λ (y : Closed). y .major) closed-is in
@@ -118,7 +155,29 @@ module _ (s : State) (b b′ : Buffers) where
     pub finish-samples : b′ .finishedSamples ≡ cond (x .closed .major .closed) (b .openSamples) (b .finishedSamples)
     finish-samples = ap (λ (y : Buffers). y .finishedSamples) (is .left) ∙ rw samples-end
 
+    -- the snapshot into the first, and the second as found
+    one-end : endedOf s (sized b) .works .one .work .copies ≡ x .closed .«first_snapshot» .closed
+    one-end =
+        let e = ap (λ (y : PacketWork). y .work .copies) (end-clears s (sized b) .two-none) in
+        sym (or-false _)
+        ∙ ap (λ (t : Bool). endedOf s (sized b) .works .one .work .copies || t) (sym e)
+        ∙ sym (end-closes s (sized b) .snapshots .first-closed)
+        ∙ sym (ap (λ (y : Closed). y .«first_snapshot» .closed) ended-is)
+
+    pub finish-first : b′ .firstSnapshot ≡ cond (x .closed .«first_snapshot» .closed) (b .openSnapshot) (b .firstSnapshot)
+    finish-first = ap (λ (y : Buffers). y .firstSnapshot) (is .left) ∙ rw (end-clears s (sized b) .two-none, one-end)
+
+    pub finish-second : b′ .secondSnapshot ≡ b .secondSnapshot
+    finish-second =
+        let copies = endedOf s (sized b) .works .one .work .copies in
+        ap (λ (y : Buffers). y .secondSnapshot) (is .left) ∙ rw (end-clears s (sized b) .two-none, and-false copies)
+
     -- the open buffers are set to 0 where they closed
+    pub finish-open-snapshot : b′ .openSnapshot ≡ cond (x .closed .«first_snapshot» .closed) (cleared 0 (b .openSnapshot)) (b .openSnapshot)
+    finish-open-snapshot =
+        let e = end-clears s (sized b) in
+        ap (λ (y : Buffers). y .openSnapshot) (is .left) ∙ rw (e .two-none, e .one-laid, e .one-cleared, one-end)
+
     pub finish-open-cells : b′ .openCells ≡ cond (x .closed .accumulation .closed) (cleared 0 (b .openCells)) (b .openCells)
     finish-open-cells =
         let e = end-clears s (sized b) in

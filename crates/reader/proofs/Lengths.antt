@@ -3,14 +3,18 @@
 use mathlib.Core.Path.{_≡_, refl, _∙_}
 use mathlib.Core.Bool.{Bool, true, false}
 use mathlib.Core.List.{List}
-use Prim.Native.Nat.{ℕ}
+use Prim.Native.Nat.{ℕ, _+_, _≤_}
+use native.Mathlib.Omega.{arith}
 use lib.ListN.{length, length-replicate}
 use borrow.Author.Tests.{eqb-true, eq-eqb}
 use Rattle.tables.proofs.Conds.{two}
 use Rattle.buffers.specs.Copying.{copied}
+use Rattle.buffers.proofs.Patches.{length-patch}
+use Rattle.bursts.specs.Bursts.{snapshotSize}
 use Rattle.cells.specs.Laying.{cellsSize}
 use Rattle.major.specs.Major.{frameSamples}
-use Rattle.reader.specs.Buffers.{sizedBy, copiedBy, clearedBy}
+use Rattle.snapshot.specs.declared.PacketWork.{PacketWork}
+use Rattle.reader.specs.Buffers.{Buffers, sizedBy, sized, copiedBy, clearedBy, packetLaidBy, packetAfter}
 
 -- a copy between two of one size
 pub is-copied {ℓ} : {A : Type ℓ} (t : Bool) (s d e : List A) → t ≡ true → length s ≡ length d → e ≡ copied s d → e ≡ copiedBy t s d
@@ -20,21 +24,48 @@ pub length-cleared {ℓ} : {A : Type ℓ} (t : Bool) (z : A) (d : List A) → le
 length-cleared true z d = length-replicate (length d) z
 length-cleared false z d = refl
 
-pub record Sizes (oc fc os fs : ℕ) : Type 0 where
-  pub cells : oc ≡ cellsSize
-  pub finished-cells : fc ≡ cellsSize
-  pub samples : os ≡ frameSamples
-  pub finished-samples : fs ≡ frameSamples
+pub record Sizes (b : Buffers) : Type 0 where
+  pub cells : length (b .openCells) ≡ cellsSize
+  pub finished-cells : length (b .finishedCells) ≡ cellsSize
+  pub samples : length (b .openSamples) ≡ frameSamples
+  pub finished-samples : length (b .finishedSamples) ≡ frameSamples
+  pub snapshot : length (b .openSnapshot) ≡ snapshotSize
+  pub first-snapshot : length (b .firstSnapshot) ≡ snapshotSize
+  pub second-snapshot : length (b .secondSnapshot) ≡ snapshotSize
 
-pub sizes : (oc fc os fs : ℕ) → sizedBy oc fc os fs ≡ true → Sizes oc fc os fs
+pub sizes : (b : Buffers) → sized b ≡ true → Sizes b
 unfolding sizedBy
-sizes oc fc os fs e =
-    let a = two _ _ e in
-    let b = two _ _ (a .1) in
-    let c = two _ _ (b .1) in
+sizes b e =
+    let p = two _ _ e in
+    let q = two _ _ (p .0) in
+    let r = two _ _ (q .1) in
+    let s = two _ _ (r .1) in
+    let t = two _ _ (p .1) in
+    let u = two _ _ (t .1) in
     record {
-      cells = eqb-true _ _ (a .0);
-      finished-cells = eqb-true _ _ (b .0);
-      samples = eqb-true _ _ (c .0);
-      finished-samples = eqb-true _ _ (c .1);
+      cells = eqb-true _ _ (q .0);
+      finished-cells = eqb-true _ _ (r .0);
+      samples = eqb-true _ _ (s .0);
+      finished-samples = eqb-true _ _ (s .1);
+      snapshot = eqb-true _ _ (t .0);
+      first-snapshot = eqb-true _ _ (u .0);
+      second-snapshot = eqb-true _ _ (u .1);
     }
+
+pub is-sized : (b : Buffers) → Sizes b → sized b ≡ true
+unfolding sizedBy
+is-sized b z = rw (z .cells, z .finished-cells, z .samples, z .finished-samples, z .snapshot, z .first-snapshot, z .second-snapshot)
+
+-- a buffer after a burst packet's work is as long as before
+pub packet-length : (w : PacketWork) (s c : List ℕ) → (w .work .lays ≡ true → w .at + length s ≤ length c) → length (packetAfter w s c) ≡ length c
+packet-length w s c room = go (w .work .lays) room
+  where
+    d : List ℕ
+    d = clearedBy (w .work .clears) 0 c
+
+    kept : length d ≡ length c
+    kept = length-cleared (w .work .clears) 0 c
+
+    go : (l : Bool) → (l ≡ true → w .at + length s ≤ length c) → length (packetLaidBy l s (w .at) d) ≡ length c
+    go true h = length-patch d (w .at) s (omega (arith, h refl, kept)) ∙ kept
+    go false h = kept

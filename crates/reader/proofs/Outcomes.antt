@@ -3,7 +3,7 @@
 use mathlib.Core.Path.{_≡_, refl, sym, ap, subst, _∙_}
 use mathlib.Core.Bool.{Bool, true, false, cond, _&&_, true≢false}
 use mathlib.Core.List.{List, []}
-use Prim.Native.Nat.{ℕ, _<_}
+use Prim.Native.Nat.{ℕ, _+_, _<_, _≤_}
 use native.Mathlib.Omega.{arith}
 use lib.Dec.{eqb}
 use lib.IntN.{ℤ}
@@ -11,33 +11,36 @@ use lib.ListN.{length, length-take, length-drop}
 use borrow.Author.Tests.{eq-eqb, eqb-true, eqb-false}
 use Rattle.tables.proofs.Conds.{two}
 use Rattle.record.specs.Layout.{size, packetSize, packetBytes, frameCode}
-use Rattle.record.specs.Parts.{PacketAtIs}
+use Rattle.record.specs.Frame.{carriesBurst, carriesTwo, kindOf}
+use Rattle.record.specs.Parts.{PacketAtIs, hasBurst}
 use Rattle.record.specs.Contents.{recordOf}
 use Rattle.carriage.specs.Carriage.{types}
 use Rattle.cells.specs.Laying.{frameType}
-use Rattle.buffers.specs.declared.work.Work.{Work}
-use Rattle.major.specs.declared.SlotWork.{SlotWork}
+use Rattle.bursts.specs.Bursts.{burstSize, snapshotSize}
+use Rattle.snapshot.specs.declared.PacketWork.{PacketWork}
 use Rattle.state.specs.List.{listed}
-use Rattle.state.specs.Deciding.{Input, numberOf, refusal, decidedOf, DecidedIs}
+use Rattle.state.specs.Deciding.{Input, fieldsOf, numberOf, refusal, decidedOf, DecidedIs}
 use Rattle.state.specs.Ending.{unended, ending, endedOf, endNumber, EndedIs}
 use Rattle.state.specs.declared.State.{State}
 use Rattle.state.specs.declared.closed.Works.{Works}
 use Rattle.state.specs.declared.deciding.Decided.{Decided}
 use Rattle.state.specs.declared.ending.Ended.{Ended}
 use Rattle.state.proofs.Numbers.{refused-is}
-use Rattle.state.proofs.Told.{all-pass, passed-size, at-work, science-type, cells-science, slot-small}
+use Rattle.state.proofs.Told.{all-pass, passed-size, at-work, science-type, cells-science, slot-small, one-fits, two-fits}
 use Rattle.state.proofs.Closing.{end-clears}
-use Rattle.reader.specs.Buffers.{Buffers, buffers, sizedBy, sized, copiedBy, clearedBy, cellsAfter, samplesAfter, worked}
+use Rattle.reader.specs.Buffers.{Buffers, buffers, sized, worked}
 use Rattle.reader.specs.Steps.{input, StepIs, FinishIs}
-use Rattle.reader.specs.Asked.{FrameReady, SlotReady, CellsReady, SamplesReady, CellsWorked, SamplesWorked}
-use Rattle.reader.proofs.Lengths.{Sizes, sizes, length-cleared}
+use Rattle.reader.specs.Asked.{CellsReady, SamplesReady, CellsWorked, SamplesWorked}
+use Rattle.reader.specs.Asked.{BurstReady, SnapshotReady, SnapshotWorked, AllReady}
+use Rattle.reader.proofs.Lengths.{Sizes, sizes}
 
--- all four buffers, once the work is done on each pair
-pub all-worked : (w : Works) (p : List ℕ) (b : Buffers) (oc fc : List ℕ) (os fs : List ℤ)
+-- all buffers, once the work is done on each pair and on the snapshot's three
+pub all-worked : (w : Works) (p : List ℕ) (b : Buffers) (oc fc : List ℕ) (os fs : List ℤ) (o f s : List ℕ)
     → SamplesWorked (w .samples) p (b .openSamples) (b .finishedSamples) os fs
     → CellsWorked (w .cells) p (b .openCells) (b .finishedCells) oc fc
-    → buffers oc fc os fs ≡ worked w p b
-all-worked w p b oc fc os fs s c = rw (s .opened, s .finished, c .opened, c .finished)
+    → SnapshotWorked (w .one) (w .two) p (b .openSnapshot) (b .firstSnapshot) (b .secondSnapshot) o f s
+    → buffers oc fc os fs o f s ≡ worked w p b
+all-worked w p b oc fc os fs o f s x y z = rw (x .opened, x .finished, y .opened, y .finished, z .opened, z .first, z .second)
 
 frame-type : (r : List ℕ) → recordOf r .«frame_type» < 36 → frameType (frameCode (packetBytes r)) < types
 unfolding recordOf
@@ -55,8 +58,8 @@ module _ (s : State) (b : Buffers) where
     accepted-so : (f : Decided → Bool) → f (refusal s (numberOf i)) ≡ false → f x ≡ true → numberOf i ≡ 0
     accepted-so f e h = at-work i f e (sym (ap f decided) ∙ h)
 
-    sizes-so : numberOf i ≡ 0 → Sizes (length (b .openCells)) (length (b .finishedCells)) (length (b .openSamples)) (length (b .finishedSamples))
-    sizes-so e = sizes _ _ _ _ (all-pass i e .sized)
+    sizes-so : numberOf i ≡ 0 → Sizes b
+    sizes-so e = sizes b (all-pass i e .sized)
 
     module _ (p : List ℕ) (from at : ℕ × ℕ) (part : PacketAtIs r from p at) where
       packet-so : length r ≡ size → p ≡ packetBytes r
@@ -67,7 +70,7 @@ module _ (s : State) (b : Buffers) where
           let h = passed-size i (all-pass i e) in
           ap length (packet-so h) ∙ simp (length-take, length-drop) (omega (arith, h))
 
-      pub samples-ready : SamplesReady (x .works .samples) p (b .openSamples) (b .finishedSamples)
+      samples-ready : SamplesReady (x .works .samples) p (b .openSamples) (b .finishedSamples)
       samples-ready = record {
         alike = λ h. let z = sizes-so (accepted-so (λ (d : Decided). d .works .samples .work .copies) refl h) in omega (arith, z);
         fits = λ h.
@@ -79,7 +82,7 @@ module _ (s : State) (b : Buffers) where
             };
       }
 
-      pub cells-ready : CellsReady (x .works .cells) p (b .openCells) (b .finishedCells)
+      cells-ready : CellsReady (x .works .cells) p (b .openCells) (b .finishedCells)
       cells-ready = record {
         alike = λ h. let z = sizes-so (accepted-so (λ (d : Decided). d .works .cells .copies) refl h) in omega (arith, z);
         fits = λ h.
@@ -92,6 +95,43 @@ module _ (s : State) (b : Buffers) where
               cells-size = sizes-so n .cells;
             };
       }
+
+      -- a burst packet is laid only where the packet has it, and there is room
+      burst-ready : (f : Works → PacketWork) (second : Bool) (has : Bool)
+          → (f (decidedOf i .works) .work .lays ≡ true → (has ≡ true) × (f (decidedOf i .works) .at + burstSize ≤ snapshotSize))
+          → (has ≡ true → hasBurst (kindOf (packetBytes r)) second ≡ true) → f (x .works) .work .lays ≡ true
+          → f (refusal s (numberOf i) .works) .work .lays ≡ false → BurstReady (f (x .works) .at) second p (b .openSnapshot)
+      burst-ready f second has fits so h none =
+          let n = accepted-so (λ (d : Decided). f (d .works) .work .lays) none h in
+          let k = fits (sym (ap (λ (d : Decided). f (d .works) .work .lays) decided) ∙ h) in
+          let e = packet-so (passed-size i (all-pass i n)) in
+          record {
+            has = rw e (so (k .0));
+            room = omega (arith, k .1, ap (λ (d : Decided). f (d .works) .at) decided, sizes-so n .snapshot);
+          }
+
+      snapshot-ready : SnapshotReady (x .works .one) (x .works .two) p (b .openSnapshot) (b .firstSnapshot) (b .secondSnapshot)
+      unfolding recordOf
+      snapshot-ready =
+          let fits : x .works .two .work .lays ≡ true → BurstReady (x .works .two .at) true p (b .openSnapshot) =
+          λ h. burst-ready (λ (w : Works). w .two) true (carriesTwo (fieldsOf i .kind)) (two-fits i) (λ e. e) h refl in
+          record {
+            first = record {
+              alike = λ h. let z = sizes-so (accepted-so (λ (d : Decided). d .works .one .work .copies) refl h) in omega (arith, z);
+              fits = λ h. burst-ready (λ (w : Works). w .one) false (carriesBurst (fieldsOf i .kind)) (one-fits i) (λ e. e) h refl;
+            };
+            second = record {
+              alike = λ h. let z = sizes-so (accepted-so (λ (d : Decided). d .works .two .work .copies) refl h) in omega (arith, z);
+              fits = fits;
+            };
+            again = record {
+              alike = λ h. let z = sizes-so (accepted-so (λ (d : Decided). d .works .two .work .copies) refl h) in omega (arith, z);
+              fits = fits;
+            };
+          }
+
+      pub step-ready : AllReady (x .works) p b
+      step-ready = record { samples = samples-ready; cells = cells-ready; snapshot = snapshot-ready }
 
       -- where nothing is laid the packet makes no difference
       other-packet : worked (decidedOf i .works) p b ≡ worked (decidedOf i .works) (packetBytes r) b
@@ -116,29 +156,49 @@ module _ (s : State) (b : Buffers) where
 
     -- something is copied only where all is of its size
     sized-so : (f : Ended → Bool) → f (unended s) ≡ false → f x ≡ true
-        → Sizes (length (b .openCells)) (length (b .finishedCells)) (length (b .openSamples)) (length (b .finishedSamples))
+        → Sizes b
     unfolding endedOf
     sized-so f e h = go (sized b && listed s) refl (sym (ap f ended-so) ∙ h)
       where
-        go : (z : Bool) → (sized b && listed s) ≡ z → f (cond z (ending s) (unended s)) ≡ true
-            → Sizes (length (b .openCells)) (length (b .finishedCells)) (length (b .openSamples)) (length (b .finishedSamples))
-        go true z q = sizes _ _ _ _ (two (sized b) (listed s) z .0)
+        go : (z : Bool) → (sized b && listed s) ≡ z → f (cond z (ending s) (unended s)) ≡ true → Sizes b
+        go true z q = sizes b (two (sized b) (listed s) z .0)
         go false z q = absurd (true≢false (sym q ∙ e))
 
     no-lays : (f : Works → Bool) → f (endedOf s (sized b) .works) ≡ false → f (x .works) ≡ true → ⊥
     no-lays f e h = true≢false (sym h ∙ ap (λ (y : Ended). f (y .works)) ended-so ∙ e)
 
-    pub samples-end : SamplesReady (x .works .samples) [] (b .openSamples) (b .finishedSamples)
+    samples-end : SamplesReady (x .works .samples) [] (b .openSamples) (b .finishedSamples)
     samples-end = record {
       alike = λ h. let z = sized-so (λ (y : Ended). y .works .samples .work .copies) refl h in omega (arith, z);
       fits = λ h. absurd (no-lays (λ (w : Works). w .samples .work .lays) (end-clears s (sized b) .samples-laid) h);
     }
 
-    pub cells-end : CellsReady (x .works .cells) [] (b .openCells) (b .finishedCells)
+    cells-end : CellsReady (x .works .cells) [] (b .openCells) (b .finishedCells)
     cells-end = record {
       alike = λ h. let z = sized-so (λ (y : Ended). y .works .cells .copies) refl h in omega (arith, z);
       fits = λ h. absurd (no-lays (λ (w : Works). w .cells .lays) (end-clears s (sized b) .cells-laid) h);
     }
+
+    snapshot-end : SnapshotReady (x .works .one) (x .works .two) [] (b .openSnapshot) (b .firstSnapshot) (b .secondSnapshot)
+    snapshot-end =
+        let none = ap (λ (w : PacketWork). w .work .lays) (end-clears s (sized b) .two-none) in
+        record {
+          first = record {
+            alike = λ h. let z = sized-so (λ (y : Ended). y .works .one .work .copies) refl h in omega (arith, z);
+            fits = λ h. absurd (no-lays (λ (w : Works). w .one .work .lays) (end-clears s (sized b) .one-laid) h);
+          };
+          second = record {
+            alike = λ h. let z = sized-so (λ (y : Ended). y .works .two .work .copies) refl h in omega (arith, z);
+            fits = λ h. absurd (no-lays (λ (w : Works). w .two .work .lays) none h);
+          };
+          again = record {
+            alike = λ h. let z = sized-so (λ (y : Ended). y .works .two .work .copies) refl h in omega (arith, z);
+            fits = λ h. absurd (no-lays (λ (w : Works). w .two .work .lays) none h);
+          };
+        }
+
+    pub end-ready : AllReady (x .works) [] b
+    end-ready = record { samples = samples-end; cells = cells-end; snapshot = snapshot-end }
 
     pub finish-is : (b′ : Buffers) → b′ ≡ worked (x .works) [] b → FinishIs s b (x .finished) b′
     finish-is b′ e = record {

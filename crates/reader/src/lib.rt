@@ -1,12 +1,15 @@
-// The reader: one record in, one answer out, four lent buffers, the state by value (01, "Joining accumulations", "Numbers a refused
+// The reader: one record in, one answer out, seven lent buffers, the state by value (01, "Joining accumulations", "Numbers a refused
 // record gets"). What is decided comes from the state room; here it is done to the buffers.
 mod cells_part;
+mod moving;
 mod samples_part;
+mod snapshot_part;
 mod steps;
 
 pub use steps::finish;
 pub use steps::right_sizes;
 pub use steps::step;
 
-// The open and the finished cells have cells::SIZE bytes each, the open and the finished samples so many numbers: 16 slots of 54.
+// The open and the finished cells have cells::SIZE bytes each, the open snapshot and the two finished ones bursts::SNAPSHOT, the open
+// and the finished samples so many numbers: 16 slots of 54.
 pub const SAMPLES: usize = 864;

@@ -5,29 +5,30 @@ ghost use Rattle.reader.specs.Steps.{StepIs, FinishIs};
 use crate::SAMPLES;
 use crate::cells_part::work_cells;
 use crate::samples_part::work_samples;
+use crate::snapshot_part::work_snapshot;
+use bursts::SNAPSHOT;
 use state::Finished;
 use state::State;
 use state::Stepped;
 
-// Are the four buffers, of so many elements, each of its size?
+// Are the seven buffers, of so many elements, each of its size?
 pub fn right_sizes(
     open_cells: usize,
     finished_cells: usize,
     open_samples: usize,
     finished_samples: usize,
+    open_snapshot: usize,
+    first_snapshot: usize,
+    second_snapshot: usize,
 ) -> bool
-    ensures { λ b. ⌜ b ≡ sizedBy «open_cells» «finished_cells» «open_samples» «finished_samples» ⌝ }
+    ensures { λ b. ⌜ b ≡ sizedBy «open_cells» «finished_cells» «open_samples» «finished_samples»
+        «open_snapshot» «first_snapshot» «second_snapshot» ⌝ }
 {
-    if open_cells != cells::SIZE {
-        return false;
-    }
-    if finished_cells != cells::SIZE {
-        return false;
-    }
-    if open_samples != SAMPLES {
-        return false;
-    }
-    finished_samples == SAMPLES
+    ((open_cells == cells::SIZE)
+        & ((finished_cells == cells::SIZE)
+            & ((open_samples == SAMPLES) & (finished_samples == SAMPLES))))
+        & ((open_snapshot == SNAPSHOT)
+            & ((first_snapshot == SNAPSHOT) & (second_snapshot == SNAPSHOT)))
 }
 
 // One record.
@@ -37,18 +38,26 @@ pub fn step(
     finished_cells: &mut [u8],
     open_samples: &mut [i16],
     finished_samples: &mut [i16],
+    open_snapshot: &mut [u8],
+    first_snapshot: &mut [u8],
+    second_snapshot: &mut [u8],
     r: &[u8],
 ) -> Stepped
     ensures { λ x. ⌜ StepIs state
-        (buffers (now («open_cells» .entry)) (now («finished_cells» .entry)) (now («open_samples» .entry)) (now («finished_samples» .entry)))
+        (buffers (now («open_cells» .entry)) (now («finished_cells» .entry)) (now («open_samples» .entry)) (now («finished_samples» .entry))
+        (now («open_snapshot» .entry)) (now («first_snapshot» .entry)) (now («second_snapshot» .entry)))
         (now (r .entry)) x
-        (buffers (now («open_cells» .exit)) (now («finished_cells» .exit)) (now («open_samples» .exit)) (now («finished_samples» .exit))) ⌝ }
+        (buffers (now («open_cells» .exit)) (now («finished_cells» .exit)) (now («open_samples» .exit)) (now («finished_samples» .exit))
+        (now («open_snapshot» .exit)) (now («first_snapshot» .exit)) (now («second_snapshot» .exit))) ⌝ }
 {
     let sized = right_sizes(
         open_cells.len(),
         finished_cells.len(),
         open_samples.len(),
         finished_samples.len(),
+        open_snapshot.len(),
+        first_snapshot.len(),
+        second_snapshot.len(),
     );
     let decided = state::decide(state, sized, r);
     let stepped = decided.stepped;
@@ -56,6 +65,14 @@ pub fn step(
     let packet = record::packet_in(r);
     work_samples(works.samples, packet, open_samples, finished_samples);
     work_cells(works.cells, packet, open_cells, finished_cells);
+    work_snapshot(
+        works.one,
+        works.two,
+        packet,
+        open_snapshot,
+        first_snapshot,
+        second_snapshot,
+    );
     stepped
 }
 
@@ -66,22 +83,38 @@ pub fn finish(
     finished_cells: &mut [u8],
     open_samples: &mut [i16],
     finished_samples: &mut [i16],
+    open_snapshot: &mut [u8],
+    first_snapshot: &mut [u8],
+    second_snapshot: &mut [u8],
 ) -> Finished
     ensures { λ x. ⌜ FinishIs state
-        (buffers (now («open_cells» .entry)) (now («finished_cells» .entry)) (now («open_samples» .entry)) (now («finished_samples» .entry)))
+        (buffers (now («open_cells» .entry)) (now («finished_cells» .entry)) (now («open_samples» .entry)) (now («finished_samples» .entry))
+        (now («open_snapshot» .entry)) (now («first_snapshot» .entry)) (now («second_snapshot» .entry)))
         x
-        (buffers (now («open_cells» .exit)) (now («finished_cells» .exit)) (now («open_samples» .exit)) (now («finished_samples» .exit))) ⌝ }
+        (buffers (now («open_cells» .exit)) (now («finished_cells» .exit)) (now («open_samples» .exit)) (now («finished_samples» .exit))
+        (now («open_snapshot» .exit)) (now («first_snapshot» .exit)) (now («second_snapshot» .exit))) ⌝ }
 {
     let sized = right_sizes(
         open_cells.len(),
         finished_cells.len(),
         open_samples.len(),
         finished_samples.len(),
+        open_snapshot.len(),
+        first_snapshot.len(),
+        second_snapshot.len(),
     );
     let ended = state::end(state, sized);
     let finished = ended.finished;
     let works = ended.works;
     work_samples(works.samples, b"", open_samples, finished_samples);
     work_cells(works.cells, b"", open_cells, finished_cells);
+    work_snapshot(
+        works.one,
+        works.two,
+        b"",
+        open_snapshot,
+        first_snapshot,
+        second_snapshot,
+    );
     finished
 }

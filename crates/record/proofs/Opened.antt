@@ -65,10 +65,10 @@ module _ (r : List ℕ) where
       pub without-packet : (from : ℕ × ℕ) → PacketIs r from [] from
       without-packet from = record { bytes = rw fails; block = refl; offset = rw fails }
 
--- a part of bytes that are of the size named, and none of others
-module _ (b : List ℕ) (size at n : ℕ) (from : ℕ × ℕ) where
-  pub whole-part : length b ≡ size → (m : ℕ) → m ≡ n → PartIs (eqb (length b) size) at n b from (take m (drop at b)) (from .0, at + from .1)
-  whole-part h m e = let t = eq-eqb (length b) size h in record { bytes = rw (t, e); block = refl; offset = rw t }
+-- a part where the test holds, and none where it fails
+module _ (holds : Bool) (b : List ℕ) (at n : ℕ) (from : ℕ × ℕ) where
+  pub whole-part : holds ≡ true → (m : ℕ) → m ≡ n → PartIs holds at n b from (take m (drop at b)) (from .0, at + from .1)
+  whole-part t m e = record { bytes = rw (t, e); block = refl; offset = rw t }
 
-  pub no-part : (length b ≡ size → ⊥) → PartIs (eqb (length b) size) at n b from [] from
-  no-part h = let t = ne-eqb (length b) size h in record { bytes = rw t; block = refl; offset = rw t }
+  pub no-part : holds ≡ false → PartIs holds at n b from [] from
+  no-part t = record { bytes = rw t; block = refl; offset = rw t }

@@ -1,4 +1,4 @@
--- The fields of a record that passes (01, "The record", "The packet").
+-- The fields of a record that passes (01, "The record", "The packet"; 02, request 2).
 -- Assumes nothing.
 use mathlib.Core.Bool.{cond}
 use Prim.Native.Nat.{ℕ}
@@ -6,8 +6,8 @@ use mathlib.Core.List.{List}
 use mathlib.Core.Path.{_≡_}
 use lib.Dec.{eqb}
 use Rattle.record.specs.Layout.{count, packetBytes, day, millisecond, level, quality}
-use Rattle.record.specs.Layout.{firstFlag, secondFlag, thirdFlag, frameCode, frameType, subcom}
-use Rattle.record.specs.Frame.{kindOf}
+use Rattle.record.specs.Layout.{firstFlag, secondFlag, thirdFlag, frameCode, frameType, secondCode, subcom}
+use Rattle.record.specs.Frame.{kindOf, secondBurst}
 use Rattle.record.specs.Signal.{levelOf}
 use Rattle.record.specs.Rules.{broken}
 use Rattle.record.specs.declared.Record.{Record}
@@ -30,6 +30,7 @@ recordOf r = record {
   «frame_code» = frameCode (packetBytes r);
   «frame_type» = frameType (packetBytes r);
   kind = kindOf (packetBytes r);
+  «second_code» = secondBurst (kindOf (packetBytes r)) (secondCode (packetBytes r));
   subcom = subcom (packetBytes r);
   reading = readingOf r;
 }

@@ -94,10 +94,13 @@ abbrev pub subcom : List ℕ → ℕ
 subcom p = bytesAt p 1 2
 
 -- "The 6 LSB of the Frame Code are the Frame Type" (000, section 2.1)
-abbrev pub frameType : List ℕ → ℕ
-frameType p = frameCode p % 64
+abbrev pub typeIn : ℕ → ℕ
+typeIn code = code % 64
 
--- then the 82 MAG bytes and the 83 ER bytes (01, "The packet")
+abbrev pub frameType : List ℕ → ℕ
+frameType p = typeIn (frameCode p)
+
+-- then, of a real-time frame, the 82 MAG bytes and the 83 ER bytes (01, "The packet")
 abbrev pub magAt : ℕ
 magAt = 3
 
@@ -115,3 +118,15 @@ magBytes p = take magCount (drop magAt p)
 
 abbrev pub scienceBytes : List ℕ → List ℕ
 scienceBytes p = take scienceCount (drop scienceAt p)
+
+-- Of a burst frame (000, sections 2.1.2, 2.1.3): 82 bytes from 3 on, as MAG is; byte 85; 82 bytes from 86 on
+
+-- "Record #2 Frame Code"
+abbrev pub secondCode : List ℕ → ℕ
+secondCode p = getD p 85 0
+
+abbrev pub secondAt : ℕ
+secondAt = 86
+
+abbrev pub burstCount : ℕ
+burstCount = 82

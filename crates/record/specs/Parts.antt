@@ -1,13 +1,16 @@
--- The packet part of a record, and the parts of a packet (01, "The record", "The packet").
+-- The packet part of a record, and the parts of a packet (01, "The record", "The packet"; 02, request 2).
 -- Assumes nothing.
 use Prim.Native.Nat.{ℕ, _+_}
-use mathlib.Core.Bool.{Bool, cond}
+use mathlib.Core.Bool.{Bool, cond, not, _&&_}
 use mathlib.Core.List.{List, []}
 use mathlib.Core.Path.{_≡_}
 use lib.Dec.{eqb}
 use lib.ListN.{length, take, drop}
 use Rattle.record.specs.Layout.{size, packetAt, packetSize, packetBytes, magAt, magCount, scienceAt, scienceCount}
+use Rattle.record.specs.Layout.{secondAt, burstCount}
+use Rattle.record.specs.Frame.{kindOf, carriesBurst, carriesTwo}
 use Rattle.record.specs.Rules.{broken}
+use Rattle.record.specs.declared.frame.Kind.{Kind}
 
 -- a part handed back: n bytes of b from place `at` on where the test holds, else none; and that they are the caller's own. A slice
 -- lies in a block of memory, the place's `.0`, from an offset on, its `.1`: the part lies in b's block, `at` bytes on (the empty
@@ -34,3 +37,20 @@ MagIs p = PartIs (eqb (length p) packetSize) magAt magCount p
 
 abbrev pub ScienceIs : List ℕ → ℕ × ℕ → List ℕ → ℕ × ℕ → Type 0
 ScienceIs p = PartIs (eqb (length p) packetSize) scienceAt scienceCount p
+
+-- a burst frame's packets (000, sections 2.1.2, 2.1.3): "82 byte burst playback record #1" at 3-84 and "#2" at 86-167 in a full burst,
+-- the one of a half burst at 86-167
+abbrev pub hasBurst : Kind → Bool → Bool
+hasBurst k second = cond second (carriesTwo k) (carriesBurst k)
+
+abbrev pub burstAt : Kind → Bool → ℕ
+burstAt k second = cond (not second && carriesTwo k) magAt secondAt
+
+abbrev pub burstBytes : List ℕ → Bool → List ℕ
+burstBytes p second = take burstCount (drop (burstAt (kindOf p) second) p)
+
+abbrev pub burstPart : List ℕ → Bool → List ℕ
+burstPart p second = cond (hasBurst (kindOf p) second) (burstBytes p second) []
+
+abbrev pub BurstIs : List ℕ → Bool → ℕ × ℕ → List ℕ → ℕ × ℕ → Type 0
+BurstIs p second = PartIs (hasBurst (kindOf p) second) (burstAt (kindOf p) second) burstCount p

@@ -8,8 +8,9 @@ use mathlib.Core.Path.{_≡_}
 use lib.Dec.{eqb, leb}
 use lib.ListN.{length}
 use Rattle.tables.specs.Rules.{Rule, rule, firstBroken, holdsIn, beforeHold, allHold}
-use Rattle.record.specs.Layout.{size, sync, version, spacecraft, rate, spare, packetBytes, frameType}
+use Rattle.record.specs.Layout.{size, sync, version, spacecraft, rate, spare, packetBytes, frameCode, secondCode}
 use Rattle.record.specs.Layout.{day, millisecond, statusSpare, firstFlag, secondFlag, thirdFlag}
+use Rattle.record.specs.Frame.{undefinedCodes}
 use Rattle.record.specs.declared.rules.Verdict.{Verdict}
 use Rattle.record.specs.declared.rules.Verdict.the-variants.{Passes, Refused}
 
@@ -54,9 +55,9 @@ flagHolds f = eqb f 1 || eqb f 2
 unfoldable pub flagsHold : List ℕ → Bool
 flagsHold r = flagHolds (firstFlag r) && (flagHolds (secondFlag r) && flagHolds (thirdFlag r))
 
--- 11: "type is 58-61"
+-- 11: "type is 58-61"; of a full burst "also for a second type other than 36 to 57 and 62" (02, request 2)
 unfoldable pub typeHolds : List ℕ → Bool
-typeHolds r = not (leb 58 (frameType (packetBytes r)) && leb (frameType (packetBytes r)) 61)
+typeHolds r = not (undefinedCodes (frameCode (packetBytes r)) (secondCode (packetBytes r)))
 
 -- in 01's order
 unfoldable pub rules : List (Rule (List ℕ))

@@ -1,22 +1,46 @@
-// The kind of a frame, by the Frame Type in the low six bits of the Frame Code (000, section 2.1; 01, "The packet").
+// The kind of a frame, by the Frame Type in the low six bits of the Frame Code, its top bit, and byte 85 (000, section 2.1; 01, "The
+// packet"; 02, request 2), and what a frame of each kind carries.
 ghost use mathlib.Core.Path.{_≡_};
-ghost use Rattle.record.specs.Frame.{kindOfType, KindIs, kindNumber, carriesMag, carriesScience};
+ghost use Rattle.record.specs.Frame.{isBurst, kindOfCodes, KindIs, kindNumber};
+ghost use Rattle.record.specs.Frame.{carriesMag, carriesScience, carriesBurst, carriesTwo, firstBurst, secondBurst};
 use crate::Record;
 
 pub enum Kind {
     RealTime(u8),
+    HalfBurst,
+    FullBurst,
     Other,
     Undefined,
 }
 
-fn kind_of_type(t: u8) -> Kind
-    ensures { λ r. ⌜ r ≡ kindOfType t ⌝ }
+// Is it the type of a burst packet?
+fn is_burst(t: u8) -> bool
+    ensures { λ b. ⌜ b ≡ isBurst t ⌝ }
 {
-    match t {
-        0..=35 => Kind::RealTime(t),
-        58..=61 => Kind::Undefined,
-        _ => Kind::Other,
+    ((36 <= t) & (t <= 57)) | (t == 62)
+}
+
+// By the Frame Code and byte 85, which is looked at in a full burst alone.
+fn kind_of_codes(code: u8, second: u8) -> Kind
+    ensures { λ r. ⌜ r ≡ kindOfCodes code second ⌝ }
+{
+    let t = code % 64;
+    if t <= 35 {
+        return Kind::RealTime(t);
     }
+    if is_burst(t) {
+        if code / 128 % 2 != 1 {
+            return Kind::HalfBurst;
+        }
+        if is_burst(second % 64) {
+            return Kind::FullBurst;
+        }
+        return Kind::Undefined;
+    }
+    if t == 63 {
+        return Kind::Other;
+    }
+    Kind::Undefined
 }
 
 // The kind of a packet's frame. Bytes that are no packet are undefined.
@@ -26,8 +50,7 @@ pub fn kind_of(packet: &[u8]) -> Kind
     if packet.len() != Record::PACKET_SIZE {
         return Kind::Undefined;
     }
-    let t = packet[Record::CODE_AT] % 64;
-    kind_of_type(t)
+    kind_of_codes(packet[Record::CODE_AT], packet[Record::SECOND_CODE_AT])
 }
 
 // The kind as one number; those that are no real-time type lie above all types.
@@ -36,6 +59,8 @@ pub fn kind_number(kind: Kind) -> u8
 {
     match kind {
         Kind::RealTime(t) => t,
+        Kind::HalfBurst => 66,
+        Kind::FullBurst => 67,
         Kind::Other => 64,
         Kind::Undefined => 65,
     }
@@ -47,6 +72,8 @@ pub fn carries_mag(kind: Kind) -> bool
 {
     match kind {
         Kind::RealTime(_) => true,
+        Kind::HalfBurst => true,
+        Kind::FullBurst => false,
         Kind::Other => false,
         Kind::Undefined => false,
     }
@@ -58,7 +85,49 @@ pub fn carries_science(kind: Kind) -> bool
 {
     match kind {
         Kind::RealTime(_) => true,
+        Kind::HalfBurst => false,
+        Kind::FullBurst => false,
         Kind::Other => false,
         Kind::Undefined => false,
     }
+}
+
+// Does it carry a burst packet?
+pub fn carries_burst(kind: Kind) -> bool
+    ensures { λ b. ⌜ b ≡ carriesBurst kind ⌝ }
+{
+    match kind {
+        Kind::RealTime(_) => false,
+        Kind::HalfBurst => true,
+        Kind::FullBurst => true,
+        Kind::Other => false,
+        Kind::Undefined => false,
+    }
+}
+
+// And a second one?
+pub fn carries_two(kind: Kind) -> bool
+    ensures { λ b. ⌜ b ≡ carriesTwo kind ⌝ }
+{
+    match kind {
+        Kind::RealTime(_) => false,
+        Kind::HalfBurst => false,
+        Kind::FullBurst => true,
+        Kind::Other => false,
+        Kind::Undefined => false,
+    }
+}
+
+// The type byte of the first burst packet, which is the Frame Code, of a frame that has one; else 0, which is no burst packet's.
+pub fn first_burst(kind: Kind, code: u8) -> u8
+    ensures { λ n. ⌜ n ≡ firstBurst kind code ⌝ }
+{
+    if carries_burst(kind) { code } else { 0 }
+}
+
+// That of the second, likewise: byte 85.
+pub(crate) fn second_burst(kind: Kind, code: u8) -> u8
+    ensures { λ n. ⌜ n ≡ secondBurst kind code ⌝ }
+{
+    if carries_two(kind) { code } else { 0 }
 }

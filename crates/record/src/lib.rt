@@ -7,10 +7,14 @@ mod signal;
 mod values;
 
 pub use frame::Kind;
+pub use frame::carries_burst;
 pub use frame::carries_mag;
 pub use frame::carries_science;
+pub use frame::carries_two;
+pub use frame::first_burst;
 pub use frame::kind_number;
 pub use frame::kind_of;
+pub use part::burst_bytes;
 pub use part::mag_bytes;
 pub use part::packet;
 pub use part::packet_in;
@@ -24,7 +28,8 @@ pub use signal::level_of;
 pub use values::Contents;
 pub use values::fields;
 
-// The fields of a record that passes rules 2 to 11. Its fixed facts are the constants below, written once.
+// The fields of a record that passes rules 2 to 11; the second code is that of a full burst's second packet, and 0 in any other
+// frame. Its fixed facts are the constants below, written once.
 pub struct Record {
     pub count: u32,
     pub day: u16,
@@ -35,6 +40,7 @@ pub struct Record {
     pub frame_code: u8,
     pub frame_type: u8,
     pub kind: Kind,
+    pub second_code: u8,
     pub subcom: u16,
     pub reading: Reading,
 }
@@ -89,4 +95,11 @@ impl Record {
     pub const SCIENCE_AT: usize = 85;
 
     pub const SCIENCE_SIZE: usize = 83;
+
+    // In a burst frame (000, sections 2.1.2, 2.1.3): 82 bytes where MAG stands, a byte, 82 bytes.
+    pub const SECOND_CODE_AT: usize = 85;
+
+    pub const SECOND_AT: usize = 86;
+
+    pub const BURST_SIZE: usize = 82;
 }

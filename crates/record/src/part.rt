@@ -2,8 +2,13 @@
 ghost use Prim.Native.Nat.{_+_, _≤_};
 ghost use lib.Dec.{eqb};
 ghost use lib.ListN.{length};
-ghost use Rattle.record.specs.Parts.{PartIs, PacketIs, PacketAtIs, MagIs, ScienceIs};
+ghost use mathlib.Core.Path.{_≡_};
+ghost use Rattle.record.specs.Parts.{PartIs, PacketIs, PacketAtIs, MagIs, ScienceIs, burstAt, hasBurst, BurstIs};
 use crate::Record;
+use crate::frame::Kind;
+use crate::frame::carries_burst;
+use crate::frame::carries_two;
+use crate::frame::kind_of;
 use crate::rules::Verdict;
 use crate::rules::check;
 
@@ -59,4 +64,39 @@ pub fn science_bytes<'a>(packet: &'a [u8]) -> &'a [u8]
         Record::SCIENCE_AT,
         Record::SCIENCE_SIZE,
     )
+}
+
+// Has a frame of this kind a first burst packet, or a second?
+fn has_burst(kind: Kind, second: bool) -> bool
+    ensures { λ b. ⌜ b ≡ hasBurst kind second ⌝ }
+{
+    if second {
+        return carries_two(kind);
+    }
+    carries_burst(kind)
+}
+
+// Where it stands: the first of two where MAG would.
+fn burst_at(kind: Kind, second: bool) -> usize
+    ensures { λ n. ⌜ n ≡ burstAt kind second ⌝ }
+{
+    if second {
+        return Record::SECOND_AT;
+    }
+    if carries_two(kind) {
+        return Record::MAG_AT;
+    }
+    Record::SECOND_AT
+}
+
+// The bytes of a packet's first burst packet, or of its second; an empty part where it has none.
+pub fn burst_bytes<'a>(packet: &'a [u8], second: bool) -> &'a [u8]
+    ensures { λ p. ⌜ BurstIs (now (packet .entry)) second (packet .entry .ptr) (now p) (p .ptr) ⌝ }
+{
+    let kind = kind_of(packet);
+    if !has_burst(kind, second) {
+        return &packet[..0];
+    }
+    let at = burst_at(kind, second);
+    &packet[at..at + Record::BURST_SIZE]
 }

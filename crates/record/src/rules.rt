@@ -100,6 +100,8 @@ fn type_holds(r: &[u8]) -> bool
     let kind = kind_of(&r[Record::PACKET_AT..Record::PACKET_END]);
     match kind {
         Kind::RealTime(_) => true,
+        Kind::HalfBurst => true,
+        Kind::FullBurst => true,
         Kind::Other => true,
         Kind::Undefined => false,
     }

@@ -5,6 +5,7 @@ ghost use Rattle.record.specs.Layout.{size};
 ghost use Rattle.record.specs.Contents.{readingOf, recordOf, ContentsIs};
 use crate::Record;
 use crate::frame::kind_of;
+use crate::frame::second_burst;
 use crate::rules::Verdict;
 use crate::rules::check;
 use crate::signal::Reading;
@@ -37,6 +38,7 @@ fn record_of(r: &[u8]) -> Record
     let status = bits::word16(r, Record::STATUS_AT);
     let code = packet[Record::CODE_AT];
     let kind = kind_of(packet);
+    let second = second_burst(kind, packet[Record::SECOND_CODE_AT]);
     let reading = reading_of(r);
     Record {
         count: bits::word24(r, Record::COUNT_AT),
@@ -48,6 +50,7 @@ fn record_of(r: &[u8]) -> Record
         frame_code: code,
         frame_type: code % 64,
         kind: kind,
+        second_code: second,
         subcom: bits::word16(packet, Record::SUBCOM_AT),
         reading: reading,
     }

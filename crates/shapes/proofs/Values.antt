@@ -21,17 +21,21 @@ flag-back false = refl
 -- what is handed out is a state, and the one that it was made of
 pub out-is : (s : State) → isState (stateOut s) ≡ true
 unfolding isState
-out-is s = go (s .clock .any)
+out-is s = go (s .clock .any) (s .snapshot .cut)
   where
-    go : (b : Bool) → (leb (flag b) 1 && true) ≡ true
-    go true = refl
-    go false = refl
+    go : (a b : Bool) → (leb (flag a) 1 && (leb (flag b) 1 && true)) ≡ true
+    go true true = refl
+    go true false = refl
+    go false true = refl
+    go false false = refl
 
 pub in-of-out : (s : State) → stateIn (stateOut s) ≡ s
 in-of-out s = λ i. record {
   clock = record { any = flag-back (s .clock .any) i; last = s .clock .last };
   accumulation = s .accumulation;
   major = s .major;
+  snapshot =
+      record { first = s .snapshot .first; held = s .snapshot .held; «last_type» = s .snapshot .«last_type»; cut = flag-back (s .snapshot .cut) i };
 }
 
 -- and each state is of one struct: one that is a state is what is handed out of it, byte for byte
@@ -47,6 +51,7 @@ pub out-of-in : (c : CState) → isState c ≡ true → stateOut (stateIn c) ≡
 unfolding isState
 out-of-in c e =
     let a = c .accumulation in
+    let o = c .snapshot in
     let e₁ = two _ _ e in
     let e₂ = two _ _ (e₁ .1) in
     let e₃ = two _ _ (e₂ .1) in
@@ -54,6 +59,8 @@ out-of-in c e =
     let e₅ = two _ _ (e₄ .1) in
     let e₆ = two _ _ (e₅ .1) in
     let e₇ = two _ _ (e₆ .1) in
+    let e₈ = two _ _ (e₇ .1) in
+    let e₉ = two _ _ (e₈ .1) in
     λ i. record {
       last = c .last;
       any = flag-of (c .any) (leb-true (c .any) 1 (e₁ .0)) i;
@@ -76,7 +83,14 @@ out-of-in c e =
         ranges = c .major .ranges;
         slots = c .major .slots;
         «mag_slots» = c .major .«mag_slots»;
-        spare32 = zero-if (c .major .spare32) (e₇ .1) i;
+        spare32 = zero-if (c .major .spare32) (e₈ .0) i;
+      };
+      snapshot = record {
+        first = o .first;
+        held = o .held;
+        «last_type» = o .«last_type»;
+        cut = flag-of (o .cut) (leb-true (o .cut) 1 (e₉ .0)) i;
+        spare16 = zero-if (o .spare16) (e₉ .1) i;
       };
     }
 
@@ -93,6 +107,7 @@ zeros = record {
   spare32 = 0;
   accumulation = record { first = 0; held = 0; «last_count» = 0; others = 0; «last_type» = 0; spare8 = 0; spare16 = 0; spare32 = 0 };
   major = record { number = 0; words = sixteen; ranges = sixteen; slots = 0; «mag_slots» = 0; spare32 = 0 };
+  snapshot = record { first = 0; held = 0; «last_type» = 0; cut = 0; spare16 = 0 };
 }
 
 pub fresh-out : stateOut fresh ≡ zeros

@@ -3,11 +3,13 @@
 use Prim.Native.Nat.{ℕ}
 use Rattle.accumulation.specs.declared.Gap.{Gap}
 use Rattle.accumulation.specs.declared.Gap.the-variants.{Opens, Joins, Neither}
+use Rattle.snapshot.specs.declared.SnapshotReport.{SnapshotReport}
 use Rattle.state.specs.declared.closed.Closed.{Closed}
 use Rattle.state.specs.declared.deciding.Taken.{Taken}
 use Rattle.feed.specs.declared.feeding.Fed.{Fed}
 use Rattle.shapes.specs.Frames.{flag, majorOut}
 use Rattle.shapes.specs.Fields.{fieldsOut}
+use Rattle.shapes.specs.declared.closed.CClosedSnapshot.{CClosedSnapshot}
 use Rattle.shapes.specs.declared.closed.CClosed.{CClosed}
 use Rattle.shapes.specs.declared.closed.CReport.{CReport}
 use Rattle.shapes.specs.declared.closed.CFed.{CFed}
@@ -18,6 +20,10 @@ gapNumber Opens = 0
 gapNumber Joins = 1
 gapNumber Neither = 2
 
+abbrev pub closedSnapshotOut : SnapshotReport → CClosedSnapshot
+closedSnapshotOut s = record { first = s .first; held = s .held; closed = flag (s .closed); spare8 = 0; spare16 = 0 }
+
+-- what closed first, and what closed second (02, request 2): each in its own place
 abbrev pub closedOut : Closed → CClosed
 closedOut c = record {
   major = majorOut (c .major .frame);
@@ -27,10 +33,12 @@ closedOut c = record {
   «accumulation_closed» = flag (c .accumulation .closed);
   spare16 = 0;
   spare32 = 0;
+  «first_snapshot» = closedSnapshotOut (c .«first_snapshot»);
+  «second_snapshot» = closedSnapshotOut (c .«second_snapshot»);
 }
 
 abbrev pub reportOut : Taken → Closed → CReport
-reportOut t c = record { fields = fieldsOut (t .fields); gap = gapNumber (t .gap); spare8 = 0; spare16 = 0; closed = closedOut c }
+reportOut t c = record { fields = fieldsOut (t .fields); gap = gapNumber (t .gap); spare8 = 0; spare16 = 0; spare32 = 0; closed = closedOut c }
 
 -- fed from place 0 on: where the next record begins is how many bytes were taken
 abbrev pub fedOut : Fed → CFed

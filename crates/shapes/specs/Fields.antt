@@ -29,4 +29,7 @@ fieldsOut f = record {
   kind = kindNumber (f .kind);
   «level_finite» = mark (f .reading .level);
   «quality_finite» = mark (f .reading .quality);
+  «second_code» = f .«second_code»;
+  spare8 = 0;
+  spare16 = 0;
 }

@@ -1,6 +1,6 @@
 // What a call closed, and the reports, as C has them.
 ghost use mathlib.Core.Path.{_≡_};
-ghost use Rattle.shapes.specs.Closed.{gapNumber, closedOut, reportOut, fedOut};
+ghost use Rattle.shapes.specs.Closed.{gapNumber, closedSnapshotOut, closedOut, reportOut, fedOut};
 use crate::fields::CFields;
 use crate::fields::fields_out;
 use crate::frames::CMajor;
@@ -8,8 +8,18 @@ use crate::frames::major_out;
 use crate::states::flag_of;
 use accumulation::Gap;
 use feed::Fed;
+use snapshot::SnapshotReport;
 use state::Closed;
 use state::Taken;
+
+#[repr(C)]
+pub struct CClosedSnapshot {
+    pub first: u64,
+    pub held: u32,
+    pub closed: u8,
+    pub spare8: u8,
+    pub spare16: u16,
+}
 
 #[repr(C)]
 pub struct CClosed {
@@ -20,6 +30,8 @@ pub struct CClosed {
     pub accumulation_closed: u8,
     pub spare16: u16,
     pub spare32: u32,
+    pub first_snapshot: CClosedSnapshot,
+    pub second_snapshot: CClosedSnapshot,
 }
 
 // Of an accepted record.
@@ -29,6 +41,7 @@ pub struct CReport {
     pub gap: u8,
     pub spare8: u8,
     pub spare16: u16,
+    pub spare32: u32,
     pub closed: CClosed,
 }
 
@@ -53,6 +66,18 @@ fn gap_number(gap: Gap) -> u8
     }
 }
 
+fn closed_snapshot_out(s: SnapshotReport) -> CClosedSnapshot
+    ensures { λ c. ⌜ c ≡ closedSnapshotOut s ⌝ }
+{
+    CClosedSnapshot {
+        first: s.first,
+        held: s.held,
+        closed: flag_of(s.closed),
+        spare8: 0,
+        spare16: 0,
+    }
+}
+
 pub fn closed_out(closed: Closed) -> CClosed
     ensures { λ c. ⌜ c ≡ closedOut closed ⌝ }
 {
@@ -66,6 +91,8 @@ pub fn closed_out(closed: Closed) -> CClosed
         accumulation_closed: flag_of(accumulation.closed),
         spare16: 0,
         spare32: 0,
+        first_snapshot: closed_snapshot_out(closed.first_snapshot),
+        second_snapshot: closed_snapshot_out(closed.second_snapshot),
     }
 }
 
@@ -78,6 +105,7 @@ pub fn report_out(taken: Taken, closed: Closed) -> CReport
         gap: gap_number(gap),
         spare8: 0,
         spare16: 0,
+        spare32: 0,
         closed: closed_out(closed),
     }
 }

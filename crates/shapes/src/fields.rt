@@ -21,6 +21,9 @@ pub struct CFields {
     pub kind: u8,
     pub level_finite: u8,
     pub quality_finite: u8,
+    pub second_code: u8,
+    pub spare8: u8,
+    pub spare16: u16,
 }
 
 fn mark_of(level: Level) -> u8
@@ -54,5 +57,8 @@ pub fn fields_out(f: Record) -> CFields
         kind: record::kind_number(kind),
         level_finite: mark_of(level),
         quality_finite: mark_of(quality),
+        second_code: f.second_code,
+        spare8: 0,
+        spare16: 0,
     }
 }

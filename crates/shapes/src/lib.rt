@@ -7,6 +7,7 @@ mod frames;
 mod states;
 
 pub use closed::CClosed;
+pub use closed::CClosedSnapshot;
 pub use closed::CFed;
 pub use closed::CReport;
 pub use closed::closed_out;
@@ -18,6 +19,7 @@ pub use frames::CMajor;
 pub use frames::major_in;
 pub use frames::major_out;
 pub use states::CAccumulation;
+pub use states::CSnapshot;
 pub use states::CState;
 pub use states::is_state;
 pub use states::state_in;

@@ -1,12 +1,13 @@
 // The reader's state as C has it.
 ghost use mathlib.Core.Path.{_≡_};
 ghost use Rattle.shapes.specs.Frames.{flag};
-ghost use Rattle.shapes.specs.States.{accumulationIn, accumulationOut, isState, stateIn, stateOut};
+ghost use Rattle.shapes.specs.States.{accumulationIn, accumulationOut, snapshotIn, snapshotOut, isState, stateIn, stateOut};
 use crate::frames::CMajor;
 use crate::frames::major_in;
 use crate::frames::major_out;
 use accumulation::Accumulation;
 use clock::Clock;
+use snapshot::Snapshot;
 use state::State;
 
 #[repr(C)]
@@ -21,6 +22,15 @@ pub struct CAccumulation {
     pub spare32: u32,
 }
 
+#[repr(C)]
+pub struct CSnapshot {
+    pub first: u64,
+    pub held: u32,
+    pub last_type: u8,
+    pub cut: u8,
+    pub spare16: u16,
+}
+
 // All 0 is the fresh state.
 #[repr(C)]
 pub struct CState {
@@ -31,6 +41,7 @@ pub struct CState {
     pub spare32: u32,
     pub accumulation: CAccumulation,
     pub major: CMajor,
+    pub snapshot: CSnapshot,
 }
 
 pub(crate) fn flag_of(b: bool) -> u8
@@ -39,18 +50,21 @@ pub(crate) fn flag_of(b: bool) -> u8
     if b { 1 } else { 0 }
 }
 
-// Is the flag 0 or 1, and each spare field 0? Only then is it a state.
+// Is each flag 0 or 1, and each spare field 0? Only then is it a state.
 pub fn is_state(c: CState) -> bool
     ensures { λ b. ⌜ b ≡ isState c ⌝ }
 {
     let a = c.accumulation;
     let m = c.major;
+    let s = c.snapshot;
     (c.any <= 1)
         & ((c.spare8 == 0)
             & ((c.spare16 == 0)
                 & ((c.spare32 == 0)
                     & ((a.spare8 == 0)
-                        & ((a.spare16 == 0) & ((a.spare32 == 0) & (m.spare32 == 0)))))))
+                        & ((a.spare16 == 0)
+                            & ((a.spare32 == 0)
+                                & ((m.spare32 == 0) & ((s.cut <= 1) & (s.spare16 == 0)))))))))
 }
 
 fn accumulation_in(c: CAccumulation) -> Accumulation
@@ -80,7 +94,30 @@ fn accumulation_out(a: Accumulation) -> CAccumulation
     }
 }
 
-// The spare fields aren't looked at, and of the flag only whether it is 1.
+fn snapshot_in(c: CSnapshot) -> Snapshot
+    ensures { λ s. ⌜ s ≡ snapshotIn c ⌝ }
+{
+    Snapshot {
+        first: c.first,
+        held: c.held,
+        last_type: c.last_type,
+        cut: c.cut == 1,
+    }
+}
+
+fn snapshot_out(s: Snapshot) -> CSnapshot
+    ensures { λ c. ⌜ c ≡ snapshotOut s ⌝ }
+{
+    CSnapshot {
+        first: s.first,
+        held: s.held,
+        last_type: s.last_type,
+        cut: flag_of(s.cut),
+        spare16: 0,
+    }
+}
+
+// The spare fields aren't looked at, and of a flag only whether it is 1.
 pub fn state_in(c: CState) -> State
     ensures { λ s. ⌜ s ≡ stateIn c ⌝ }
 {
@@ -91,6 +128,7 @@ pub fn state_in(c: CState) -> State
         },
         accumulation: accumulation_in(c.accumulation),
         major: major_in(c.major),
+        snapshot: snapshot_in(c.snapshot),
     }
 }
 
@@ -106,5 +144,6 @@ pub fn state_out(s: State) -> CState
         spare32: 0,
         accumulation: accumulation_out(s.accumulation),
         major: major_out(s.major),
+        snapshot: snapshot_out(s.snapshot),
     }
 }

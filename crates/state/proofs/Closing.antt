@@ -15,6 +15,10 @@ use Rattle.accumulation.proofs.Closing.{FramesClose, frames-report, no-frames, 
 use Rattle.major.specs.Major.{majorOpen}
 use Rattle.major.proofs.Closing as major
 use Rattle.major.proofs.Closing.{MajorCloses, major-report, no-major}
+use Rattle.buffers.specs.Working.{noWork}
+use Rattle.snapshot.specs.Snapshot.{packetWork}
+use Rattle.snapshot.proofs.Closing as snapshot
+use Rattle.snapshot.proofs.Closing.{SnapshotsClose, no-snapshots}
 use Rattle.state.specs.Closed.{nothingClosed, noWorks}
 use Rattle.state.specs.List.{listed}
 use Rattle.state.specs.Deciding.{Input, numberOf, acceptance, decidedOf}
@@ -34,9 +38,10 @@ use Rattle.state.proofs.Numbers.{accepted-is, refused-is}
 pub record Closes (w : Works) (x : Closed) : Type 0 where
   pub samples : MajorCloses (w .samples .work) (x .major)
   pub cells : FramesClose (w .cells) (x .accumulation)
+  pub snapshots : SnapshotsClose (w .one) (w .two) (x .«first_snapshot») (x .«second_snapshot»)
 
 nothing : Closes noWorks nothingClosed
-nothing = record { samples = no-major false false; cells = no-frames false false }
+nothing = record { samples = no-major false false; cells = no-frames false false; snapshots = no-snapshots }
 
 abbrev DecidedCloses : Decided → Type 0
 DecidedCloses x = Closes (x .works) (x .stepped .closed)
@@ -48,7 +53,7 @@ step-closes i = go (eqb (numberOf i) 0) refl
     go : (t : Bool) → eqb (numberOf i) 0 ≡ t → DecidedCloses (decidedOf i)
     go true t =
         subst⁻¹ DecidedCloses (accepted-is i (eqb-true (numberOf i) 0 t))
-        (record { samples = major.step-closes _ _ _ _ _; cells = accumulation.step-closes _ _ _ _ })
+        (record { samples = major.step-closes _ _ _ _ _; cells = accumulation.step-closes _ _ _ _; snapshots = snapshot.step-closes _ _ _ _ _ })
     go false t = subst⁻¹ DecidedCloses (refused-is i (eqb-false (numberOf i) 0 t)) nothing
 
 pub end-closes : (s : State) (sized : Bool) → Closes (endedOf s sized .works) (endedOf s sized .finished .closed)
@@ -59,6 +64,7 @@ end-closes s sized = go (sized && listed s)
     go true = record {
       samples = major-report (s .major) (majorOpen (s .major)) false (λ e. e);
       cells = frames-report (s .accumulation) (isOpen (s .accumulation)) false (λ e. e);
+      snapshots = snapshot.end-closes (s .snapshot);
     }
     go false = nothing
 
@@ -69,14 +75,35 @@ pub record Ends (w : Works) : Type 0 where
   pub cells-cleared : w .cells .clears ≡ w .cells .copies
   pub cells-laid : w .cells .lays ≡ false
   pub slot : w .samples .slot ≡ 0
+  pub one-cleared : w .one .work .clears ≡ w .one .work .copies
+  pub one-laid : w .one .work .lays ≡ false
+  pub two-none : w .two ≡ packetWork noWork 0
 
 pub end-clears : (s : State) (sized : Bool) → Ends (endedOf s sized .works)
 unfolding endedOf
 end-clears s sized = go (sized && listed s)
   where
     go : (t : Bool) → Ends (cond t (ending s) (unended s) .works)
-    go true = record { samples-cleared = refl; samples-laid = refl; cells-cleared = refl; cells-laid = refl; slot = refl }
-    go false = record { samples-cleared = refl; samples-laid = refl; cells-cleared = refl; cells-laid = refl; slot = refl }
+    go true = record {
+      samples-cleared = refl;
+      samples-laid = refl;
+      cells-cleared = refl;
+      cells-laid = refl;
+      slot = refl;
+      one-cleared = refl;
+      one-laid = refl;
+      two-none = refl;
+    }
+    go false = record {
+      samples-cleared = refl;
+      samples-laid = refl;
+      cells-cleared = refl;
+      cells-laid = refl;
+      slot = refl;
+      one-cleared = refl;
+      one-laid = refl;
+      two-none = refl;
+    }
 
 -- once finished nothing is open: a second finish is done too, changes nothing and closes nothing
 pub second-end : (s : State) (sized : Bool) → Sound s → (sized && listed s) ≡ true

@@ -6,7 +6,7 @@ use Prim.Native.Nat.{_<_}
 use native.Mathlib.Omega.{arith}
 use lib.Dec.{eqb}
 use borrow.Author.Tests.{eqb-true, eqb-false}
-use Rattle.clock.specs.Clock.{counts, unset, accepted, isLater, hasTurn, clockListed}
+use Rattle.clock.specs.Clock.{counts, unset, isLater, hasTurn, clockListed}
 use Rattle.clock.specs.declared.Clock.{Clock}
 use Rattle.clock.proofs.Laws.{dated-above, dated-below, accepted-listed, unset-listed, unset-is}
 use Rattle.accumulation.specs.Accumulation.{noAccumulation}
@@ -15,6 +15,9 @@ use Rattle.accumulation.proofs.Keeping as accumulation
 use Rattle.major.specs.Major.{noMajor}
 use Rattle.major.specs.declared.Major.{Major}
 use Rattle.major.proofs.Keeping as major
+use Rattle.snapshot.specs.Snapshot.{noSnapshot}
+use Rattle.snapshot.specs.declared.Snapshot.{Snapshot}
+use Rattle.snapshot.proofs.Keeping as snapshot
 use Rattle.state.specs.List.{fresh, listed}
 use Rattle.state.specs.Deciding.{Input, fieldsOf, countAt, magRange, clockHolds, turnHolds, numberOf, acceptance, decidedOf}
 use Rattle.state.specs.Ending.{ending, unended, endedOf}
@@ -26,9 +29,17 @@ use Rattle.state.proofs.Numbers.{accepted-is, refused-is}
 use Rattle.state.proofs.Told.{Passed, all-pass, science-type}
 
 -- nothing open passes with every clock that passes
-none-sound : (c : Clock) → clockListed c ≡ true → Sound (record { clock = c; accumulation = noAccumulation; major = noMajor })
+abbrev nothingOpen : Clock → State
+nothingOpen c = record { clock = c; accumulation = noAccumulation; major = noMajor; snapshot = noSnapshot }
+
+none-sound : (c : Clock) → clockListed c ≡ true → Sound (nothingOpen c)
 none-sound c e = record {
-  passes = is-listed c noAccumulation noMajor e (accumulation.none-listed c) (major.none-listed c);
+  passes = is-listed (nothingOpen c) (record {
+    clock = e;
+    accumulation = accumulation.none-listed c;
+    major = major.none-listed c;
+    snapshot = snapshot.none-listed c;
+  });
   shaped = major.shaped-none;
 }
 
@@ -61,10 +72,13 @@ module _ (i : Input) (sound : Sound (i .state)) (p : Passed i) where
       let c = i .state .clock in
       let m = i .state .major in
       record {
-        passes = is-listed (accepted (countAt i)) _ _
-            (accepted-listed (countAt i) small)
-            (accumulation.step-listed c (i .state .accumulation) _ _ (countAt i) (known .accumulation) (science-type (i .bytes)) above small)
-            (major.step-listed c m (countAt i) _ (magRange i) (fieldsOf i .subcom) (known .major) (sound .shaped) above (omega arith));
+        passes = is-listed _ (record {
+          clock = accepted-listed (countAt i) small;
+          accumulation =
+              accumulation.step-listed c (i .state .accumulation) _ _ (countAt i) (known .accumulation) (science-type (i .bytes)) above small;
+          major = major.step-listed c m (countAt i) _ (magRange i) (fieldsOf i .subcom) (known .major) (sound .shaped) above (omega arith);
+          snapshot = snapshot.step-listed c (i .state .snapshot) (countAt i) _ _ (known .snapshot) above;
+        });
         shaped = major.step-shaped c m (countAt i) _ (magRange i) (fieldsOf i .subcom) (known .major) (sound .shaped) above (omega arith);
       }
 
@@ -90,14 +104,15 @@ end-sound s sized sound = go (sized && listed s)
     go true = ended-sound s sound
     go false = sound
 
-all-none : (c : Clock) (a : Accumulation) (m : Major) → c ≡ unset → a ≡ noAccumulation → m ≡ noMajor
-    → _≡_ {A = State} (record { clock = c; accumulation = a; major = m }) fresh
-all-none c a m p q r = rw (p, q, r)
+all-none : (c : Clock) (a : Accumulation) (m : Major) (s : Snapshot) → c ≡ unset → a ≡ noAccumulation → m ≡ noMajor → s ≡ noSnapshot
+    → _≡_ {A = State} (record { clock = c; accumulation = a; major = m; snapshot = s }) fresh
+all-none c a m s p q r t = rw (p, q, r, t)
 
 -- "Until something is accepted, all is 0."
 pub unstarted : (s : State) → Sound s → s .clock .any ≡ false → s ≡ fresh
 unstarted s sound a =
     let f = facts s (sound .passes) in
-    all-none (s .clock) (s .accumulation) (s .major) (unset-is (s .clock) (f .clock) a)
+    all-none (s .clock) (s .accumulation) (s .major) (s .snapshot) (unset-is (s .clock) (f .clock) a)
     (accumulation.unstarted (s .clock) (s .accumulation) (f .accumulation) a)
     (major.unstarted (s .clock) (s .major) (f .major) (sound .shaped) a)
+    (snapshot.unstarted (s .clock) (s .snapshot) (f .snapshot) a)

@@ -3,13 +3,13 @@
 use mathlib.Core.Path.{_≡_, refl, sym, ap, _∙_}
 use mathlib.Core.Bool.{Bool, true, false, not, cond, true≢false}
 use mathlib.Core.List.{List}
-use Prim.Native.Nat.{ℕ, _<_}
+use Prim.Native.Nat.{ℕ, _+_, _<_, _≤_}
 use native.Mathlib.Omega.{arith}
 use lib.Dec.{eqb}
 use lib.ListN.{length}
 use borrow.Author.Tests.{eq-eqb, eqb-true, eqb-false}
 use Rattle.record.specs.Layout.{size, packetBytes}
-use Rattle.record.specs.Frame.{carriesMag, carriesScience}
+use Rattle.record.specs.Frame.{carriesMag, carriesScience, carriesBurst, carriesTwo}
 use Rattle.record.specs.Rules.{broken}
 use Rattle.record.specs.Contents.{recordOf}
 use Rattle.record.proofs.Opened as opened
@@ -19,6 +19,9 @@ use Rattle.clock.specs.Clock.{accepted}
 use Rattle.accumulation.proofs.Closing as accumulation
 use Rattle.major.specs.Major.{slotOf, continues}
 use Rattle.major.proofs.Closing as major
+use Rattle.bursts.specs.Bursts.{burstSize, snapshotSize}
+use Rattle.snapshot.specs.Snapshot.{isPart, stepSnapshot}
+use Rattle.snapshot.proofs.Closing as snapshot
 use Rattle.state.specs.List.{listed}
 use Rattle.state.specs.Deciding.{Input, fieldsOf, countAt, stateHolds, clockHolds, turnHolds, numberOf, refusal, acceptance, decidedOf}
 use Rattle.state.specs.declared.deciding.Decided.{Decided}
@@ -75,6 +78,12 @@ pub science-type : (r : List ℕ) → carriesScience (recordOf r .kind) ≡ true
 unfolding recordOf
 science-type r e = types.real-type (packetBytes r) (sym (types.science-real _) ∙ e)
 
+-- 0 is no packet's type byte
+part-burst : (t : Bool) (code : ℕ) → isPart (cond t code 0) ≡ true → t ≡ true
+unfolding isPart
+part-burst true code e = refl
+part-burst false code e = absurd (true≢false (sym e))
+
 module _ (i : Input) where
   -- each part lays just what carries it, the samples in the record's slot, cleared by the first of a major frame
   pub samples-mag : numberOf i ≡ 0 → decidedOf i .works .samples .work .lays ≡ carriesMag (fieldsOf i .kind)
@@ -100,3 +109,26 @@ module _ (i : Input) where
       go : (t : Bool) → eqb (numberOf i) 0 ≡ t → decidedOf i .works .samples .slot < 16
       go true t = omega (arith, samples-slot (eqb-true (numberOf i) 0 t))
       go false t = omega (arith, ap (λ (x : Decided). x .works .samples .slot) (refused-is i (eqb-false (numberOf i) 0 t)))
+
+  -- a burst packet is laid only of a frame that has it, and where it has room
+  pub one-fits : decidedOf i .works .one .work .lays ≡ true
+      → (carriesBurst (fieldsOf i .kind) ≡ true) × (decidedOf i .works .one .at + burstSize ≤ snapshotSize)
+  unfolding acceptance stepSnapshot
+  one-fits h =
+      let n = at-work i (λ (x : Decided). x .works .one .work .lays) refl h in
+      let q = accepted-is i n in
+      let k = sym (ap (λ (x : Decided). x .works .one .work .lays) q) ∙ h in (
+        part-burst (carriesBurst (fieldsOf i .kind)) _ (sym (snapshot.lays-part _ _ _) ∙ k),
+        omega (arith, ap (λ (x : Decided). x .works .one .at) q, snapshot.lays-room _ _ _ k),
+      )
+
+  pub two-fits : decidedOf i .works .two .work .lays ≡ true
+      → (carriesTwo (fieldsOf i .kind) ≡ true) × (decidedOf i .works .two .at + burstSize ≤ snapshotSize)
+  unfolding acceptance stepSnapshot recordOf
+  two-fits h =
+      let n = at-work i (λ (x : Decided). x .works .two .work .lays) refl h in
+      let q = accepted-is i n in
+      let k = sym (ap (λ (x : Decided). x .works .two .work .lays) q) ∙ h in (
+        part-burst (carriesTwo (fieldsOf i .kind)) _ (sym (snapshot.lays-part _ _ _) ∙ k),
+        omega (arith, ap (λ (x : Decided). x .works .two .at) q, snapshot.lays-room _ _ _ k),
+      )

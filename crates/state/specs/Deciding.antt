@@ -1,5 +1,5 @@
 -- What a record decides, from the state, the buffers' sizes and the record alone (01, "Joining accumulations", "Numbers a refused
--- record gets"; 02, request 1).
+-- record gets"; 02, requests 1 and 2).
 -- Assumes nothing.
 use Prim.Native.Nat.{ℕ, _<_}
 use mathlib.Core.Bool.{Bool, true, cond, _&&_}
@@ -8,7 +8,7 @@ use mathlib.Core.Path.{_≡_}
 use lib.Dec.{eqb}
 use Rattle.tables.specs.Rules.{Rule, rule, ofPart, firstBroken}
 use Rattle.record.specs.Layout.{packetBytes, magBytes}
-use Rattle.record.specs.Frame.{carriesMag, carriesScience}
+use Rattle.record.specs.Frame.{carriesMag, carriesScience, firstBurst}
 use Rattle.record.specs.Rules.{rules}
 use Rattle.record.specs.Contents.{recordOf}
 use Rattle.record.specs.declared.Record.{Record}
@@ -18,6 +18,8 @@ use Rattle.accumulation.specs.Accumulation.{stepAccumulation}
 use Rattle.accumulation.specs.declared.AccumulationStep.{AccumulationStep}
 use Rattle.major.specs.Major.{stepMajor}
 use Rattle.major.specs.declared.MajorStep.{MajorStep}
+use Rattle.snapshot.specs.Snapshot.{stepSnapshot}
+use Rattle.snapshot.specs.declared.SnapshotStep.{SnapshotStep}
 use Rattle.state.specs.List.{listed}
 use Rattle.state.specs.Closed.{nothingClosed, noWorks}
 use Rattle.state.specs.declared.State.{State}
@@ -62,25 +64,43 @@ readerRules = rule 1 stateHolds ∷ (ofPart (λ (i : Input). i .bytes) rules ++ 
 unfoldable pub numberOf : Input → ℕ
 numberOf i = firstBroken readerRules i
 
--- "Each returns its number only; state and all four buffers stay as found."
+-- "Each returns its number only; state and all four buffers stay as found", and so do the three that 02 adds
 abbrev pub refusal : State → ℕ → Decided
 refusal s n = record { stepped = record { answer = Refused n; state = s; closed = nothingClosed }; works = noWorks }
 
--- a record that no rule refuses, at full count d: its part in the accumulation, and in the major frame
+-- a record that no rule refuses, at full count d: its part in the accumulation, in the major frame, and in the snapshot
 abbrev pub inAccumulation : State → Record → ℕ → AccumulationStep
 inAccumulation s f d = stepAccumulation (s .accumulation) (carriesScience (f .kind)) (f .«frame_type») d
 
 abbrev pub inMajor : State → Record → ℕ → ℕ → MajorStep
 inMajor s f d range = stepMajor (s .major) d (carriesMag (f .kind)) range (f .subcom)
 
+abbrev pub inSnapshot : State → Record → ℕ → SnapshotStep
+inSnapshot s f d = stepSnapshot (s .clock) (s .snapshot) d (firstBurst (f .kind) (f .«frame_code»)) (f .«second_code»)
+
 unfoldable pub acceptance : State → Record → ℕ → ℕ → Decided
 acceptance s f d range = record {
   stepped = record {
     answer = Accepted (record { fields = f; gap = inAccumulation s f d .gap });
-    state = record { clock = accepted d; accumulation = inAccumulation s f d .next; major = inMajor s f d range .next };
-    closed = record { major = inMajor s f d range .report; accumulation = inAccumulation s f d .report };
+    state = record {
+      clock = accepted d;
+      accumulation = inAccumulation s f d .next;
+      major = inMajor s f d range .next;
+      snapshot = inSnapshot s f d .next;
+    };
+    closed = record {
+      major = inMajor s f d range .report;
+      accumulation = inAccumulation s f d .report;
+      «first_snapshot» = inSnapshot s f d .first;
+      «second_snapshot» = inSnapshot s f d .second;
+    };
   };
-  works = record { samples = inMajor s f d range .work; cells = inAccumulation s f d .work };
+  works = record {
+    samples = inMajor s f d range .work;
+    cells = inAccumulation s f d .work;
+    one = inSnapshot s f d .one;
+    two = inSnapshot s f d .two;
+  };
 }
 
 -- what a number decides: 0 that the record is accepted, any other that it is refused with that number

@@ -6,17 +6,23 @@ use buffers::Work;
 use buffers::no_work;
 use major::MajorReport;
 use major::SlotWork;
+use snapshot::PacketWork;
+use snapshot::SnapshotReport;
 
-// One call may close both; the major frame is reported first.
+// One call may close all; the major frame is reported first, then the accumulation, then the snapshots, of which it may close two.
 pub struct Closed {
     pub major: MajorReport,
     pub accumulation: AccumulationReport,
+    pub first_snapshot: SnapshotReport,
+    pub second_snapshot: SnapshotReport,
 }
 
-// What is done to the samples and to the cells.
+// What is done to the samples, to the cells, and to the snapshot's bytes for each of two packets.
 pub struct Works {
     pub samples: SlotWork,
     pub cells: Work,
+    pub one: PacketWork,
+    pub two: PacketWork,
 }
 
 pub fn nothing_closed() -> Closed
@@ -25,6 +31,8 @@ pub fn nothing_closed() -> Closed
     Closed {
         major: major::unreported(),
         accumulation: accumulation::unreported(),
+        first_snapshot: snapshot::unreported(),
+        second_snapshot: snapshot::unreported(),
     }
 }
 
@@ -34,5 +42,7 @@ pub(crate) fn no_works() -> Works
     Works {
         samples: major::no_slot_work(no_work()),
         cells: no_work(),
+        one: snapshot::no_packet_work(no_work()),
+        two: snapshot::no_packet_work(no_work()),
     }
 }

@@ -38,7 +38,7 @@ pub struct Stepped {
     pub closed: Closed,
 }
 
-// That, and what is then done to samples and cells.
+// That, and what is then done to samples, cells and the snapshot's bytes.
 pub struct Decided {
     pub stepped: Stepped,
     pub works: Works,
@@ -70,7 +70,8 @@ fn refused(state: State, n: u8) -> Decided
     }
 }
 
-// A record that no rule refuses, at full count d: one part for the clock, one for the accumulation, one for the major frame.
+// A record that no rule refuses, at full count d: one part for the clock, one for the accumulation, one for the major frame, one for
+// the snapshot.
 fn accept(state: State, f: Record, d: u64, range: u8) -> Decided
     requires { ⌜ Ready state f d ⌝ }
     ensures { λ x. ⌜ x ≡ acceptance state f d range ⌝ }
@@ -80,6 +81,8 @@ fn accept(state: State, f: Record, d: u64, range: u8) -> Decided
     let mag = record::carries_mag(kind);
     let cells = accumulation::step(state.accumulation, science, f.frame_type, d);
     let samples = major::step(state.major, d, mag, range, f.subcom);
+    let one = record::first_burst(kind, f.frame_code);
+    let bursts = snapshot::step(state.clock, state.snapshot, d, one, f.second_code);
     let gap = cells.gap;
     let taken = Taken {
         fields: f,
@@ -88,15 +91,21 @@ fn accept(state: State, f: Record, d: u64, range: u8) -> Decided
     let answer = Answer::Accepted(taken);
     let accumulation = cells.next;
     let major = samples.next;
+    let snapshot = bursts.next;
     let next = State {
         clock: clock::accepted(d),
         accumulation: accumulation,
         major: major,
+        snapshot: snapshot,
     };
     let major = samples.report;
     let accumulation = cells.report;
+    let first = bursts.first;
+    let second = bursts.second;
     let samples = samples.work;
     let cells = cells.work;
+    let one = bursts.one;
+    let two = bursts.two;
     Decided {
         stepped: Stepped {
             answer: answer,
@@ -104,11 +113,15 @@ fn accept(state: State, f: Record, d: u64, range: u8) -> Decided
             closed: Closed {
                 major: major,
                 accumulation: accumulation,
+                first_snapshot: first,
+                second_snapshot: second,
             },
         },
         works: Works {
             samples: samples,
             cells: cells,
+            one: one,
+            two: two,
         },
     }
 }

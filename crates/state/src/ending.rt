@@ -1,4 +1,4 @@
-// What finish decides (01, "Joining accumulations"): both close that are open, the last accepted count is kept.
+// What finish decides (01, "Joining accumulations"): all close that are open, the last accepted count is kept.
 ghost use mathlib.Core.Path.{_≡_};
 ghost use Rattle.state.specs.Ending.{unended, EndedIs};
 use crate::State;
@@ -8,6 +8,7 @@ use crate::closed::no_works;
 use crate::closed::nothing_closed;
 use crate::listed;
 use buffers::closing_work;
+use buffers::no_work;
 
 pub enum Ending {
     Refused(u8),
@@ -21,7 +22,7 @@ pub struct Finished {
     pub closed: Closed,
 }
 
-// That, and what is then done to samples and cells.
+// That, and what is then done to samples, cells and the snapshot's bytes.
 pub struct Ended {
     pub finished: Finished,
     pub works: Works,
@@ -52,6 +53,7 @@ pub fn end(state: State, sized: bool) -> Ended
     }
     let a = state.accumulation;
     let m = state.major;
+    let s = state.snapshot;
     let clock = state.clock;
     Ended {
         finished: Finished {
@@ -60,15 +62,20 @@ pub fn end(state: State, sized: bool) -> Ended
                 clock: clock,
                 accumulation: accumulation::no_accumulation(),
                 major: major::no_major(),
+                snapshot: snapshot::no_snapshot(),
             },
             closed: Closed {
                 major: major::report(m),
                 accumulation: accumulation::report(a),
+                first_snapshot: snapshot::report(s),
+                second_snapshot: snapshot::unreported(),
             },
         },
         works: Works {
             samples: major::no_slot_work(closing_work(m.slots != 0)),
             cells: closing_work(a.held != 0),
+            one: snapshot::no_packet_work(closing_work(s.held != 0)),
+            two: snapshot::no_packet_work(no_work()),
         },
     }
 }

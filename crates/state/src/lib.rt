@@ -22,12 +22,14 @@ pub use ending::Ending;
 pub use ending::Finished;
 pub use ending::end;
 use major::Major;
+use snapshot::Snapshot;
 
-// Clock, open accumulation, open major frame. Fresh is all 0.
+// Clock, open accumulation, open major frame, open snapshot. Fresh is all 0.
 pub struct State {
     pub clock: Clock,
     pub accumulation: Accumulation,
     pub major: Major,
+    pub snapshot: Snapshot,
 }
 
 pub fn fresh() -> State
@@ -37,6 +39,7 @@ pub fn fresh() -> State
         clock: clock::unset(),
         accumulation: accumulation::no_accumulation(),
         major: major::no_major(),
+        snapshot: snapshot::no_snapshot(),
     }
 }
 
@@ -51,4 +54,5 @@ pub fn listed(state: State) -> bool
         return false;
     }
     accumulation::is_listed(state.clock, state.accumulation)
+        & snapshot::is_listed(state.clock, state.snapshot)
 }

@@ -16,6 +16,7 @@ use Rattle.record.specs.declared.frame.Kind.{Kind}
 use Rattle.record.proofs.Types.{science-real}
 use Rattle.clock.specs.Clock.{dated}
 use Rattle.mag.specs.Samples.{samplesSize, range, samples}
+use Rattle.bursts.specs.Bursts.{snapshotSize}
 use Rattle.cells.specs.Laying.{cellsSize, laidFrame}
 use Rattle.accumulation.specs.Accumulation.{isOpen, joins, joined, started, passed, unreported, reported}
 use Rattle.accumulation.specs.Accumulation.{passes, extends, renews, stepAccumulation}
@@ -53,6 +54,9 @@ noCells = replicate cellsSize 0
 
 abbrev pub noSamples : List ℤ
 noSamples = replicate frameSamples (pos 0)
+
+abbrev pub noBytes : List ℕ
+noBytes = replicate snapshotSize 0
 
 -- what is open is handed out when it closes
 unfoldable pub closing : Accumulation → List ℕ → List ClosedAccumulation
@@ -95,7 +99,7 @@ abbrev pub collect : Major → List ℤ → List Kept → List ClosedMajor
 collect m s xs = gather collecting (m, s) xs
 
 -- a call by the decision that it comes to
-abbrev callOf : Buffers → List ℕ → Decided → Call
+abbrev pub callOf : Buffers → List ℕ → Decided → Call
 callOf b r x = record { result = x .stepped; left = worked (x .works) (packetBytes r) b }
 
 call-is : (s : State) (b : Buffers) (r : List ℕ) (x : Decided) → decidedOf (input s b r) ≡ x → called s b r ≡ callOf b r x
@@ -136,10 +140,10 @@ module _ (s : State) (b : Buffers) (x : Kept) (e : numberOf (input s b (x .bytes
   abbrev kind : Kind
   kind = recordOf (x .bytes) .kind
 
-  abbrev taken : Decided
+  abbrev pub taken : Decided
   taken = acceptance s (recordOf (x .bytes)) (at x) (range (magBytes (packet x)))
 
-  is-taken : called s b (x .bytes) ≡ callOf b (x .bytes) taken
+  pub is-taken : called s b (x .bytes) ≡ callOf b (x .bytes) taken
   is-taken = call-is s b (x .bytes) taken (accepted-is (input s b (x .bytes)) e ∙ rw q)
 
   -- what carries science is real-time

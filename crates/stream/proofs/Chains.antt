@@ -5,11 +5,12 @@ use mathlib.Core.Bool.{Bool, true, false}
 use mathlib.Core.List.{List, [], _∷_}
 use Prim.Native.Nat.{ℕ, _+_, _%_, _≤_, _<_}
 use native.Mathlib.Omega.{arith}
-use lib.ListN.{drop}
+use lib.ListN.{length, drop}
 use lib.Seq.{getD-take, getD-drop}
 use Rattle.tables.specs.Every.{Every}
 use Rattle.bits.specs.Twelve.{Bytes}
-use Rattle.record.specs.Layout.{frameCode}
+use Rattle.record.specs.Layout.{size, frameCode}
+use Rattle.record.proofs.Opened as opened
 use Rattle.carriage.specs.Carriage.{types}
 use Rattle.stream.specs.Filling.{packet}
 use Rattle.gathering.specs.Lists.{those}
@@ -21,6 +22,7 @@ use Rattle.stream.specs.Cutting.{at, typeOf}
 -- x is the next kept: count c, real-time number k and l lost ones come before what was sent from here on
 pub record Next (c k l : ℕ) (x : Kept) : Type 0 where
   pub bytes : Bytes (x .bytes)
+  pub sized : length (x .bytes) ≡ size
   pub counted : at x + l ≡ c + x .lost
   pub losing : l ≤ x .lost
   pub rising : k ≤ x .serial
@@ -37,7 +39,7 @@ unfolding Chain
 loosen [] c k k′ l p q h = tt
 loosen (x ∷ xs) c k k′ l p q h =
     let n = h .0 in
-    (record { bytes = n .bytes; counted = omega arith; losing = omega arith; rising = omega arith; between = omega arith; typed = n .typed }, h .1)
+    (record { bytes = n .bytes; sized = n .sized; counted = omega arith; losing = omega arith; rising = omega arith; between = omega arith; typed = n .typed }, h .1)
 
 next-near : (k : ℕ) (r : List ℕ) → (k ≤ next k r) × (next k r ≤ k + 1)
 next-near k r = go (realTime r) refl
@@ -55,7 +57,7 @@ chain (removed r ∷ xs) c k l h =
     loosen (keptOf (c + 1) (next k r) (l + 1) xs) c k (next k r) l (n .0) (n .1) (chain xs (c + 1) (next k r) (l + 1) (h .1))
 chain (kept r ∷ xs) c k l h =
     let p = h .0 in (
-      record { bytes = p .bytes; counted = omega arith; losing = omega arith; rising = omega arith; between = omega arith; typed = p .typed },
+      record { bytes = p .bytes; sized = opened.sized r (p .passes); counted = omega arith; losing = omega arith; rising = omega arith; between = omega arith; typed = p .typed },
       chain xs (c + 1) (next k r) l (h .1),
     )
 

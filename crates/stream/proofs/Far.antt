@@ -16,13 +16,14 @@ use Rattle.state.specs.List.{fresh}
 use Rattle.state.specs.Deciding.{stateHolds, clockHolds, numberOf}
 use Rattle.state.proofs.Numbers.{number-is}
 use Rattle.reader.specs.Steps.{input}
+use Rattle.reader.proofs.Lengths.{is-sized}
 use Rattle.gathering.specs.Lists.{Some}
 use Rattle.stream.specs.Running.{Call, called, run, traceOf, answers}
 use Rattle.stream.specs.Sending.{sentCount, Fate, kept, Sends, sentMany, Unwrapped, fed, Kept, keptOf, unspoiled}
 use Rattle.stream.specs.Cutting.{at, unaccepted}
 use Rattle.stream.specs.Far.{SecondGets, Far}
 use Rattle.stream.proofs.Runs.{answered}
-use Rattle.stream.proofs.Parts.{Ready, Stood, is-sized, start, stands-at, accepts, clock-after, moves}
+use Rattle.stream.proofs.Parts.{Ready, Stood, start, stands-at, accepts, clock-after, moves}
 use Rattle.stream.proofs.Leading.{led}
 use Rattle.stream.proofs.Lost.{unaccepted-lost}
 use Rattle.stream.proofs.Made.{lent, lent-sized, made, filler, other-filler, sent-filler}

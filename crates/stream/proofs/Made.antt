@@ -16,17 +16,18 @@ use Rattle.bits.specs.Numbers.{bitOf, bit, join, number}
 use Rattle.bits.specs.Twelve.{Bytes}
 use Rattle.bits.proofs.WordBytes.{none, more}
 use Rattle.clock.specs.Clock.{ownOf}
-use Rattle.record.specs.Frame.{kindOf, kindOfType}
+use Rattle.record.specs.Frame.{isBurst, kindOfCodes, kindOf, undefinedCodes}
 use Rattle.record.specs.Rules.{rules, broken, sizeHolds, syncHolds, spacecraftHolds, rateHolds, spareHolds, dayHolds, millisecondHolds}
 use Rattle.record.specs.Rules.{statusSpareHolds, flagsHold, typeHolds}
 use Rattle.record.specs.Contents.{recordOf}
+use Rattle.bursts.specs.Bursts.{snapshotSize}
 use Rattle.cells.specs.Laying.{cellsSize}
 use Rattle.record.specs.Frame.{isRealTime}
 use Rattle.major.specs.Major.{frameSamples}
 use Rattle.reader.specs.Buffers.{Buffers, buffers, sized}
+use Rattle.reader.proofs.Lengths.{Sizes, is-sized}
 use Rattle.stream.specs.Sending.{sentCount, realTime, SentAt}
-use Rattle.stream.proofs.Calls.{noCells, noSamples}
-use Rattle.stream.proofs.Parts.{Lengths, is-sized}
+use Rattle.stream.proofs.Calls.{noCells, noSamples, noBytes}
 
 -- a record sent at count c, with Frame Code t and ones in the rest of the packet and in the tail; day 1, flags 01
 unfoldable pub made : ℕ → ℕ → List ℕ
@@ -79,7 +80,7 @@ module _ (c t : ℕ) (h : t < 256) where
 module _ (c : ℕ) where
   rights : Right c 5 × Right c 6 × Right c 62
   unfolding made broken firstBroken rules sizeHolds syncHolds spacecraftHolds rateHolds spareHolds dayHolds millisecondHolds
-      statusSpareHolds flagsHold typeHolds recordOf number join bit bitOf
+      statusSpareHolds flagsHold typeHolds undefinedCodes isBurst recordOf number join bit bitOf
   rights = (is-right c 5 (omega arith) refl refl, is-right c 6 (omega arith) refl refl, is-right c 62 (omega arith) refl refl)
 
   pub five : Right c 5
@@ -94,15 +95,15 @@ module _ (c : ℕ) where
 -- their kinds
 module _ (c : ℕ) where
   pub real-five : realTime (made c 5) ≡ true
-  unfolding made isRealTime recordOf kindOf kindOfType
+  unfolding made isRealTime recordOf kindOf kindOfCodes isBurst
   real-five = refl
 
   pub real-six : realTime (made c 6) ≡ true
-  unfolding made isRealTime recordOf kindOf kindOfType
+  unfolding made isRealTime recordOf kindOf kindOfCodes isBurst
   real-six = refl
 
   pub other-filler : realTime (made c 62) ≡ false
-  unfolding made isRealTime recordOf kindOf kindOfType
+  unfolding made isRealTime recordOf kindOf kindOfCodes isBurst
   other-filler = refl
 
 -- sent in their turn
@@ -123,14 +124,15 @@ module _ (c k : ℕ) where
 
 -- buffers of 0
 unfoldable pub lent : Buffers
-lent = buffers noCells noCells noSamples noSamples
+lent = buffers noCells noCells noSamples noSamples noBytes noBytes noBytes
 
-pub lent-lengths : Lengths lent
+pub lent-lengths : Sizes lent
 unfolding lent
 lent-lengths =
     let c = length-replicate {A = ℕ} cellsSize 0 in
     let s = length-replicate {A = ℤ} frameSamples (pos 0) in
-    record { cells = c; finished-cells = c; samples = s; finished-samples = s }
+    let b = length-replicate {A = ℕ} snapshotSize 0 in
+    record { cells = c; finished-cells = c; samples = s; finished-samples = s; snapshot = b; first-snapshot = b; second-snapshot = b }
 
 pub lent-sized : sized lent ≡ true
 lent-sized = is-sized lent lent-lengths

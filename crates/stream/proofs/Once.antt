@@ -11,10 +11,11 @@ use Rattle.reader.specs.Buffers.{Buffers}
 use Rattle.gathering.specs.Lists.{Some}
 use Rattle.gathering.proofs.Those.{rising-those}
 use Rattle.gathering.proofs.Owning.{all-tied}
-use Rattle.stream.specs.Running.{Trace, Allowed, accumulations, majors}
+use Rattle.stream.specs.Running.{Trace, Allowed, accumulations, majors, snapshots}
 use Rattle.stream.specs.Sending.{Fate, fed, Stream, isReal, reals, unspoiled, Kept}
 use Rattle.stream.specs.Cutting.{at, Joined, Parted, tears}
 use Rattle.stream.specs.Filling.{Filled}
+use Rattle.stream.specs.Bursts.{snapPackets}
 use Rattle.stream.specs.Once.{OnceEach, Own}
 use Rattle.stream.proofs.Sums.{filled-total}
 use Rattle.stream.proofs.Filled.{filled-held}
@@ -24,6 +25,8 @@ use Rattle.stream.proofs.Leading.{led}
 use Rattle.stream.proofs.Demand.{demand-3}
 use Rattle.stream.proofs.OwnCells.{cells-owned, torn-where}
 use Rattle.stream.proofs.OwnSlots.{slots-owned}
+use Rattle.stream.proofs.Packets.{all-parts}
+use Rattle.stream.proofs.OwnPackets.{stood, together-where, snapshots-unmixed, bytes-held}
 
 pub once-each : (xs : List Fate) (b : Buffers) (c k : ℕ) (t : Trace) → Stream c k xs b t → Allowed fresh b (fed xs) t → OnceEach c k xs t
 once-each xs b c k t w a =
@@ -40,6 +43,9 @@ once-each xs b c k t w a =
     let parts = all-tied Joined Parted Filled (d .parts) (accumulations t) (d .parts-cut) (d .parts-out) in
     let cells = cells-owned rs n m real-counts serials known (d .parts) (accumulations t) (d .parts-whole) parts in
     let slots = slots-owned ks n counts (d .major-parts) (majors t) (d .major-whole) (d .major-out) in
+    let pieces = all-parts ks n m 0 (l .chained) in
+    let snaps = stood ks (d .snapshot-parts) (snapshots t) (d .snapshot-whole) (d .snapshot-out) (d .snapshot-cut) pieces in
+    let bytes = snapshots-unmixed ks (d .snapshot-parts) (snapshots t) (d .snapshot-whole) (d .snapshot-out) (d .snapshot-cut) pieces in
     record {
       one = cells .one;
       there = cells .there;
@@ -54,4 +60,9 @@ once-each xs b c k t w a =
       one-major = slots .one;
       there-major = slots .there;
       unmixed-major = slots .each;
+      one-snapshot = λ i f a. snaps i f a .0;
+      there-snapshot = λ i f a. snaps i f a .1;
+      unmixed-snapshot = bytes;
+      joined-where = together-where ks (d .snapshot-parts) (snapshots t) (d .snapshot-whole) (d .snapshot-out) (d .snapshot-cut) pieces;
+      snapshot-filled = bytes-held (snapPackets ks) (snapshots t) (d .snapshot-parts) 0 0 (d .snapshot-out) bytes ∙ d .snaps-sum;
     }

@@ -14,9 +14,13 @@ use Rattle.buffers.specs.Laying.{patch}
 use Rattle.buffers.specs.declared.work.Work.{Work}
 use Rattle.buffers.proofs.Patches.{length-patch}
 use Rattle.record.specs.Layout.{packetBytes, frameCode, magBytes, scienceBytes}
+use Rattle.record.specs.Parts.{burstBytes}
+use Rattle.record.proofs.Types.{burst-short}
 use Rattle.record.specs.Rules.{broken}
 use Rattle.record.specs.Contents.{recordOf}
+use Rattle.record.proofs.Opened as opened
 use Rattle.mag.specs.Samples.{samplesSize, sample, samples}
+use Rattle.bursts.specs.Bursts.{snapshotSize}
 use Rattle.cells.specs.Laying.{cellsSize, laidFrame}
 use Rattle.cells.proofs.Laws.{length-frame}
 use Rattle.clock.specs.Clock.{ownOf, isLater, hasTurn, dated, accepted}
@@ -30,25 +34,20 @@ use Rattle.state.specs.Ending.{endedOf}
 use Rattle.state.specs.Keeping.{Sound}
 use Rattle.state.specs.declared.State.{State}
 use Rattle.state.proofs.Numbers.{number-is}
-use Rattle.state.proofs.Told.{accepted-clock, slot-small}
+use Rattle.state.proofs.Told.{accepted-clock, slot-small, one-fits, two-fits}
 use Rattle.state.proofs.Keeping.{step-sound, fresh-sound}
-use Rattle.reader.specs.Buffers.{Buffers, sizedBy, sized, copiedBy, clearedBy, cellsAfter, samplesAfter}
+use Rattle.reader.specs.Buffers.{Buffers, sized, copiedBy, clearedBy, cellsAfter, samplesAfter, afterFirst}
 use Rattle.reader.specs.Steps.{input}
-use Rattle.reader.proofs.Lengths.{Sizes, sizes, length-cleared}
+use Rattle.reader.proofs.Lengths.{Sizes, sizes, is-sized, length-cleared, packet-length}
 use Rattle.gathering.specs.Gathering.{gather}
-use Rattle.stream.specs.Running.{Call, Trace, step, called, run, traceOf, accumulations, majors}
+use Rattle.stream.specs.Running.{Call, Trace, step, called, run, traceOf, accumulations, majors, snapshots}
 use Rattle.stream.specs.Cutting.{at}
+use Rattle.stream.specs.Bursts.{packetsOf}
 use Rattle.stream.specs.Sending.{sentCount, next, Fate, kept, removed, extra, Sends, fed, ExtraRefused, KeptAccepted, Kept, keptOf}
 use Rattle.stream.proofs.Runs.{answered, finished}
 use Rattle.stream.proofs.Calls.{accumulate, collect, cells-out, samples-out, refused-call, cells-call, samples-call}
-
--- "buffers of the right sizes"
-abbrev pub Lengths : Buffers → Type 0
-Lengths b = Sizes (length (b .openCells)) (length (b .finishedCells)) (length (b .openSamples)) (length (b .finishedSamples))
-
-pub is-sized : (b : Buffers) → Lengths b → sized b ≡ true
-unfolding sizedBy
-is-sized b z = rw (z .cells, z .finished-cells, z .samples, z .finished-samples)
+use Rattle.stream.proofs.Snapping.{eventsFrom, snap}
+use Rattle.stream.proofs.SnapCalls.{snap-end, snaps-call}
 
 -- the sizes stay
 copied-size : {A : Type 0} (t : Bool) (c d : List A) (n : ℕ) → length c ≡ n → length d ≡ n → length (copiedBy t c d) ≡ n
@@ -73,26 +72,38 @@ samples-size w p s h e = go (w .work .lays) (w .work .clears)
         (rw (length-build (sample (magBytes p)) samplesSize) (omega (arith, n))) ∙ n
     go false t = length-cleared t (pos 0) s ∙ e
 
-pub call-sized : (s : State) (b : Buffers) (r : List ℕ) → Lengths b → Lengths (called s b r .left)
+pub call-sized : (s : State) (b : Buffers) (r : List ℕ) → Sizes b → Sizes (called s b r .left)
 unfolding called
 call-sized s b r z =
     let i = input s b r in
     let w = decidedOf i .works in
+    let p = packetBytes r in
+    let first = packet-length (w .one) (burstBytes p false) (b .openSnapshot) (λ h. omega (arith, one-fits i h .1, burst-short p false, z .snapshot)) in
+    let second = packet-length (w .two) (burstBytes p true) (afterFirst (w .one) p (b .openSnapshot))
+    (λ h. omega (arith, two-fits i h .1, burst-short p true, first, z .snapshot)) ∙ first in
     record {
       cells = cells-size (w .cells) (packetBytes r) (b .openCells) (z .cells);
       finished-cells = copied-size (w .cells .copies) (b .openCells) (b .finishedCells) cellsSize (z .cells) (z .finished-cells);
       samples = samples-size (w .samples) (packetBytes r) (b .openSamples) (slot-small i) (z .samples);
       finished-samples =
           copied-size (w .samples .work .copies) (b .openSamples) (b .finishedSamples) frameSamples (z .samples) (z .finished-samples);
+      snapshot = second ∙ z .snapshot;
+      first-snapshot =
+          copied-size (w .one .work .copies) (b .openSnapshot) _ snapshotSize (z .snapshot)
+          (copied-size (w .two .work .copies) (afterFirst (w .one) p (b .openSnapshot)) (b .firstSnapshot) snapshotSize
+          (first ∙ z .snapshot) (z .first-snapshot));
+      second-snapshot =
+          copied-size (w .one .work .copies && w .two .work .copies) (afterFirst (w .one) p (b .openSnapshot)) (b .secondSnapshot) snapshotSize
+          (first ∙ z .snapshot) (z .second-snapshot);
     }
 
 -- a reader that takes records
 pub record Ready (s : State) (b : Buffers) : Type 0 where
   pub sound : Sound s
-  pub sized : Lengths b
+  pub sized : Sizes b
 
 pub start : (b : Buffers) → sized b ≡ true → Ready fresh b
-start b z = record { sound = fresh-sound; sized = sizes _ _ _ _ z }
+start b z = record { sound = fresh-sound; sized = sizes b z }
 
 -- each of the records can follow the clock that the one before it left
 unfoldable pub Follow : Clock → List Kept → Type 0
@@ -130,6 +141,7 @@ pub record Parts (ks : List Kept) (xs : List Fate) (s : State) (b : Buffers) : T
   pub accepted : KeptAccepted xs (run s b (fed xs))
   pub cells : accumulations (run s b (fed xs)) ≡ accumulate (s .accumulation) (b .openCells) ks
   pub samples : majors (run s b (fed xs)) ≡ collect (s .major) (b .openSamples) ks
+  pub bytes : (n : ℕ) → snapshots (run s b (fed xs)) ≡ snap (s .clock .last) (s .snapshot) (b .openSnapshot) (eventsFrom n ks)
 
 is-accepted : (s : State) (b : Buffers) (r : List ℕ) → numberOf (input s b r) ≡ 0 → answerNumber (called s b r .result .answer) ≡ 0
 unfolding called
@@ -141,24 +153,25 @@ behind y rs = run (y .result .state) (y .left) rs
 
 -- nothing more is fed: finish
 pub ends : (s : State) (b : Buffers) → Ready s b → Parts [] [] s b
-unfolding traceOf fed KeptAccepted accumulations majors gather endedOf
+unfolding traceOf fed KeptAccepted accumulations majors snapshots gather eventsFrom endedOf
 ends s b h =
     let t : (sized b && listed s) ≡ true = rw (is-sized b (h .sized)) (h .sound .passes) in
     record {
       accepted = finished s (sized b) ∙ rw t;
       cells = rw t (cells-out (s .accumulation) (b .openCells) (b .finishedCells));
       samples = rw t (samples-out (s .major) (b .openSamples) (b .finishedSamples));
+      bytes = λ n. rw t (snap-end (s .snapshot) (b .openSnapshot) (b .firstSnapshot));
     }
 
 -- one more that was sent and not fed, and one more that was fed and is refused
 module _ (ks : List Kept) (xs : List Fate) (s : State) (b : Buffers) where
   pub lost-one : (r : List ℕ) → Parts ks xs s b → Parts ks (removed r ∷ xs) s b
   unfolding fed KeptAccepted
-  lost-one r v = record { accepted = v .accepted; cells = v .cells; samples = v .samples }
+  lost-one r v = record { accepted = v .accepted; cells = v .cells; samples = v .samples; bytes = v .bytes }
 
   pub extra-one : (x : List ℕ) → ExtraRefused (extra x ∷ xs) (run s b (fed (extra x ∷ xs)))
       → (ExtraRefused xs (run s b (fed xs)) → Parts ks xs s b) → Parts ks (extra x ∷ xs) s b
-  unfolding traceOf fed ExtraRefused KeptAccepted accumulations majors
+  unfolding traceOf fed ExtraRefused KeptAccepted accumulations majors snapshots
   extra-one x q v =
       let e = refused-call s b x (q .0) in
       let p = v (subst (λ (y : Call). ExtraRefused xs (behind y (fed xs))) e (q .1)) in
@@ -166,6 +179,8 @@ module _ (ks : List Kept) (xs : List Fate) (s : State) (b : Buffers) where
         accepted = subst⁻¹ (λ (y : Call). KeptAccepted xs (behind y (fed xs))) e (p .accepted);
         cells = subst⁻¹ (λ (y : Call). accumulations (step y (behind y (fed xs))) ≡ accumulate (s .accumulation) (b .openCells) ks) e (p .cells);
         samples = subst⁻¹ (λ (y : Call). majors (step y (behind y (fed xs))) ≡ collect (s .major) (b .openSamples) ks) e (p .samples);
+        bytes = λ n. subst⁻¹ (λ (y : Call). snapshots (step y (behind y (fed xs))) ≡ snap (s .clock .last) (s .snapshot) (b .openSnapshot) (eventsFrom n ks))
+            e (p .bytes n);
       }
 
 pub parts : (xs : List Fate) (k l c : ℕ) (s : State) (b : Buffers) → Ready s b → Sends c k xs → Follow (s .clock) (keptOf c k l xs)
@@ -181,11 +196,18 @@ parts (kept r ∷ xs) k l c s b h w f q =
     let d = stands-at s c (f .0) r (p .counted) in
     let n = accepts s b c r h d (p .passes) in
     let ks = keptOf (c + 1) (next k r) l xs in
-    let g = subst⁻¹ (λ (y : Clock). Follow y ks) (clock-after s b c r h d n) (f .1) in
+    let clock = clock-after s b c r h d n in
+    let g = subst⁻¹ (λ (y : Clock). Follow y ks) clock (f .1) in
     let v = parts xs (next k r) l (c + 1) (called s b r .result .state) (called s b r .left) (moves s b r h) (w .1) g q in
     let t = behind (called s b r) (fed xs) in
     record {
       accepted = (is-accepted s b r n, v .accepted);
       cells = cells-call s b x n (d .count) t ks (h .sized .cells) (v .cells);
       samples = samples-call s b x n (d .count) t ks (h .sized .samples) (v .samples);
+      bytes = λ m.
+          let y = called s b r in
+          let es = eventsFrom (m + length (packetsOf m x)) ks in
+          snaps-call s b x n (d .count) m t ks (h .sized .snapshot) (opened.sized r (p .passes))
+          (subst (λ (z : Clock). snapshots t ≡ snap (z .last) (y .result .state .snapshot) (y .left .openSnapshot) es) clock
+          (v .bytes (m + length (packetsOf m x))));
     }

@@ -6,14 +6,17 @@ use Prim.Native.Nat.{ℕ, _+_, _*_}
 use native.Mathlib.Omega.{arith}
 use lib.ListN.{length, length-append}
 use Rattle.mag.specs.Samples.{samplesSize}
+use Rattle.bursts.specs.Bursts.{burstSize}
 use Rattle.carriage.specs.Carriage.{scienceSize}
-use Rattle.listing.specs.Lines.{cellsHeld, slotsHeld, samplesHeld}
+use Rattle.listing.specs.Lines.{cellsHeld, slotsHeld, samplesHeld, snapCellsHeld}
 use Rattle.gathering.specs.Lists.{Pairwise, flat, sum, those}
 use Rattle.gathering.proofs.Those.{those-append}
 use Rattle.gathering.proofs.Totals.{sum-is}
-use Rattle.stream.specs.Running.{ClosedAccumulation, ClosedMajor}
+use Rattle.stream.specs.Running.{ClosedAccumulation, ClosedMajor, ClosedSnapshot}
 use Rattle.stream.specs.Sending.{Kept, hasMag, magged}
 use Rattle.stream.specs.Filling.{Filled, MajorFilled}
+use Rattle.stream.specs.Bursts.{Packet}
+use Rattle.stream.specs.Snapshots.{SnapshotFilled}
 use Rattle.stream.proofs.Counting.{cellsIn, cells-held}
 
 mags-none : length (magged []) ≡ 0
@@ -23,7 +26,7 @@ mags-none = refl
 mags-length : (g h : List Kept) → length (magged (g ++ h)) ≡ length (magged g) + length (magged h)
 mags-length g h = ap length (those-append hasMag g h) ∙ length-append (magged g) (magged h)
 
--- the listing's three numbers
+-- the listing's numbers
 module _ (gs : List (List Kept)) where
   pub cells-total : (os : List ClosedAccumulation) → Pairwise Filled gs os → sum (λ a. cellsHeld (a .report)) os ≡ scienceSize * length (flat gs)
   cells-total =
@@ -44,3 +47,9 @@ module _ (gs : List (List Kept)) where
 
     pub slots-total : sum (λ m. slotsHeld (m .frame)) os ≡ length (flat gs)
     slots-total = sum-is MajorFilled (λ m. slotsHeld (m .frame)) length refl length-append (λ g m f. f .held) gs os h
+
+pub snaps-total : (ps : List (List Packet)) (os : List ClosedSnapshot) → Pairwise SnapshotFilled ps os
+    → sum (λ s. snapCellsHeld (s .report)) os ≡ burstSize * length (flat ps)
+snaps-total =
+    sum-is SnapshotFilled (λ s. snapCellsHeld (s .report)) (λ g. burstSize * length g)
+    refl (λ g h. omega (arith, length-append g h)) (λ g s f. ap (λ (n : ℕ). burstSize * n) (f .held))

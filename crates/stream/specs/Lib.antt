@@ -2,6 +2,8 @@ pub mod Running
 pub mod Sending
 pub mod Cutting
 pub mod Filling
+pub mod Bursts
+pub mod Snapshots
 pub mod Demand
 pub mod Once
 pub mod Law

@@ -1,25 +1,30 @@
--- Demand 3, cell by cell: each kept record has exactly one accumulation and one major frame of its own, and stands there in its
--- own place; what is handed out comes from such records, of one round, and is 0 elsewhere.
+-- Demand 3, cell by cell: each kept record has exactly one major frame of its own, each real-time one exactly one accumulation, each
+-- packet of types 36 to 55 exactly one snapshot, and stands there in its own place; what is handed out comes from such, an accumulation
+-- from those of one round, and is 0 elsewhere.
 -- Assumes nothing.
 use mathlib.Core.Path.{_≡_}
 use mathlib.Core.Bool.{Bool, true, false, cond, _&&_, _||_}
 use mathlib.Core.List.{List, [], _∷_}
-use mathlib.Core.Logic.{_⊎_}
-use Prim.Native.Nat.{ℕ, _*_, _<_, _≤_}
+use mathlib.Core.Logic.{_⊎_, _↔_}
+use Prim.Native.Nat.{ℕ, suc, _*_, _<_, _≤_}
 use lib.Dec.{eqb}
 use lib.ListN.{length, getD}
 use Rattle.tables.specs.Every.{Every}
 use Rattle.tables.specs.Marks.{bitSet}
 use Rattle.record.specs.Layout.{frameCode, scienceBytes}
+use Rattle.bursts.specs.Bursts.{burstSize}
 use Rattle.carriage.specs.Carriage.{types, scienceSize, cells, carrier, byteOf}
 use Rattle.cells.specs.Laying.{topPair, pairAt}
 use Rattle.cells.specs.Raw.{holdsCell}
 use Rattle.major.specs.Major.{slots}
 use Rattle.gathering.specs.Lists.{Some, ExactlyOne, Neighbours, sum, total}
+use Rattle.gathering.specs.Places.{At}
 use Rattle.stream.specs.Running.{Trace, ClosedAccumulation, ClosedMajor, accumulations, majors}
 use Rattle.stream.specs.Sending.{Fate, Kept, magged, unspoiled, realUnspoiled}
 use Rattle.stream.specs.Cutting.{at, typeOf, round, unaccepted, tears, major}
 use Rattle.stream.specs.Filling.{packet, Stands, slot, Sampled, Slotted, NoSlot, NoMag}
+use Rattle.stream.specs.Bursts.{Packet, snapPackets, Together}
+use Rattle.stream.specs.Snapshots.{PacketStands, placedSnapshots, HasPacket, HasNext, UnmixedSnapshot, bytesFilled}
 
 -- the accumulation is of round n: its first count is that of one of the kept real-time records fs, of that round
 abbrev pub OfRound : List Kept → ℕ → ClosedAccumulation → Type 0
@@ -82,3 +87,13 @@ pub record OnceEach (c k : ℕ) (xs : List Fate) (t : Trace) : Type 0 where
   pub one-major : Every (λ f. ExactlyOne (OwnMajor f) (majors t)) (unspoiled c k xs)
   pub there-major : Every (λ f. Every (λ m. OwnMajor f m → Slotted f m) (majors t)) (unspoiled c k xs)
   pub unmixed-major : Every (UnmixedMajor (unspoiled c k xs)) (majors t)
+  -- each packet of types 36 to 55 of the kept records, by its place among them: its 82 bytes stand in exactly one snapshot handed out,
+  -- told by its place, in their place there; each byte handed out is a held packet's, or 0; two neighbours stand in one exactly when
+  -- 02's rule joins them; "82 a packet of 36 to 55 left unspoiled"
+  pub one-snapshot : (i : ℕ) (f : Packet) → At i f (snapPackets (unspoiled c k xs)) → ExactlyOne (HasPacket i) (placedSnapshots t)
+  pub there-snapshot : (i : ℕ) (f : Packet) → At i f (snapPackets (unspoiled c k xs))
+      → Every (λ e. HasPacket i e → PacketStands f (e .thing)) (placedSnapshots t)
+  pub unmixed-snapshot : Every (UnmixedSnapshot (snapPackets (unspoiled c k xs))) (placedSnapshots t)
+  pub joined-where : (i : ℕ) (p f : Packet) → At i p (snapPackets (unspoiled c k xs)) → At (suc i) f (snapPackets (unspoiled c k xs))
+      → Some (HasNext i) (placedSnapshots t) ↔ Together (unspoiled c k xs) p f
+  pub snapshot-filled : bytesFilled (snapPackets (unspoiled c k xs)) t ≡ burstSize * length (snapPackets (unspoiled c k xs))

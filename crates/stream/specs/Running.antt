@@ -12,10 +12,12 @@ use Rattle.state.specs.declared.deciding.Stepped.{Stepped}
 use Rattle.state.specs.declared.ending.Finished.{Finished}
 use Rattle.major.specs.declared.Major.{Major}
 use Rattle.major.specs.declared.MajorReport.{MajorReport}
+use Rattle.snapshot.specs.declared.SnapshotReport.{SnapshotReport}
+use Rattle.state.specs.declared.closed.Closed.{Closed}
 use Rattle.reader.specs.Buffers.{Buffers, sized}
 use Rattle.reader.specs.Steps.{input, stepped, ended, StepIs, FinishIs}
 
--- a call of step: what it answers, and the four buffers as it leaves them
+-- a call of step: what it answers, and the buffers as it leaves them
 pub record Call : Type 0 where
   pub result : Stepped
   pub left : Buffers
@@ -72,11 +74,18 @@ pub record ClosedMajor : Type 0 where
   pub frame : Major
   pub samples : List ℤ
 
+pub record ClosedSnapshot : Type 0 where
+  pub report : SnapshotReport
+  pub bytes : List ℕ
+
 abbrev pub accumulationOut : AccumulationReport → List ℕ → List ClosedAccumulation
 accumulationOut r c = cond (r .closed) (record { report = r; cells = c } ∷ []) []
 
 abbrev pub majorOut : MajorReport → List ℤ → List ClosedMajor
 majorOut r s = cond (r .closed) (record { frame = r .frame; samples = s } ∷ []) []
+
+abbrev pub snapshotOut : SnapshotReport → List ℕ → List ClosedSnapshot
+snapshotOut r b = cond (r .closed) (record { report = r; bytes = b } ∷ []) []
 
 unfoldable pub accumulations : Trace → List ClosedAccumulation
 accumulations (step c t) = accumulationOut (c .result .closed .accumulation) (c .left .finishedCells) ++ accumulations t
@@ -85,6 +94,14 @@ accumulations (finish e) = accumulationOut (e .result .closed .accumulation) (e 
 unfoldable pub majors : Trace → List ClosedMajor
 majors (step c t) = majorOut (c .result .closed .major) (c .left .finishedSamples) ++ majors t
 majors (finish e) = majorOut (e .result .closed .major) (e .left .finishedSamples)
+
+-- of two that one call closes, the one in the first finished buffer first
+abbrev pub snapshotsOut : Closed → Buffers → List ClosedSnapshot
+snapshotsOut c b = snapshotOut (c .«first_snapshot») (b .firstSnapshot) ++ snapshotOut (c .«second_snapshot») (b .secondSnapshot)
+
+unfoldable pub snapshots : Trace → List ClosedSnapshot
+snapshots (step c t) = snapshotsOut (c .result .closed) (c .left) ++ snapshots t
+snapshots (finish e) = snapshotsOut (e .result .closed) (e .left)
 
 -- each state that is handed back, the end state last
 unfoldable pub states : Trace → List State

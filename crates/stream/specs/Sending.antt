@@ -96,7 +96,7 @@ KeptAccepted (removed r ∷ xs) t = KeptAccepted xs t
 KeptAccepted (extra x ∷ xs) (step c t) = KeptAccepted xs t
 KeptAccepted (extra x ∷ xs) (finish e) = ⊥
 
--- A kept record and its place: its full count, its real-time number (of an other record, that of the next real-time one), and how
+-- A kept record and its place: its full count, its real-time number (of one that isn't real-time, that of the next real-time one), and how
 -- many sent since the first kept one were not kept. But for its turn the full count is the record's own (`own-counts` in
 -- proofs/Leading.antt).
 pub record Kept : Type 0 where

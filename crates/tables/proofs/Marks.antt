@@ -55,6 +55,11 @@ module _ (n u : ℕ) (h : n < 2 ^ u) where
       let shifted : n + 2 ^ u ≡ 1 * 2 ^ u + n = add-comm n (2 ^ u) ∙ ap (λ (x : ℕ). x + n) (sym (one-mul (2 ^ u))) in
       ap ones shifted ∙ ones-cat u 1 n h ∙ ap (λ (x : ℕ). x + ones n) ones-one ∙ add-comm 1 (ones n)
 
+-- marks below 2^n have no highest from n on
+pub none-above : (n t held : ℕ) → held < 2 ^ n → n ≤ t → highest held t ≡ false
+unfolding highest
+none-above n t held h l = let e : held / 2 ^ t ≡ 0 = div-eq-of-lt (lt-of-lt-of-le h (pow-mono l)) in rw e
+
 -- no mark from u on
 pub bits-above : (n i : ℕ) → n < 2 ^ i → bitSet n i ≡ false
 bits-above n i h = rw (div-eq-of-lt h)
@@ -97,3 +102,8 @@ lower n u h e =
 pub below : (k u n : ℕ) → n < 2 ^ (u + k) → ((i : ℕ) → u ≤ i → i < u + k → bitSet n i ≡ false) → n < 2 ^ u
 below zero u n h f = rw add-zero at h
 below (suc k) u n h f = below k u n (lower n (u + k) (rw add-suc at h) (f (u + k) (omega arith) (omega arith))) (λ i a b. f i a (omega arith))
+
+-- a mark set is some mark
+pub marked-some : (n u : ℕ) → 0 < marked n u
+unfolding marked
+marked-some n u = omega (arith, pow-pos u)

@@ -1,7 +1,7 @@
 -- `c_electrons::lpmag_lay_electrons` meets its contract.
 -- Assumes nothing.
 use denote.Ref.{now}
-use Rattle.c_electrons.proofs.Questions.{laid-told}
+use Rattle.c_electrons.proofs.Laid.{laid-told}
 use borrow.Author.Needs.{needs}
 use Rattle.c_electrons.proofs.lpmag_lay_electrons.Statement.{statement}
 use Rattle.c_electrons.proofs.lpmag_lay_electrons.Tie as tie

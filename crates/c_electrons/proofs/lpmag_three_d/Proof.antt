@@ -1,7 +1,7 @@
 -- `c_electrons::lpmag_three_d` meets its contract.
 -- Assumes nothing.
 use denote.Ref.{now}
-use Rattle.c_electrons.proofs.Questions.{count-told}
+use Rattle.c_answers.proofs.Handing.{count-told}
 use borrow.Author.Needs.{needs}
 use Rattle.c_electrons.proofs.lpmag_three_d.Statement.{statement}
 use Rattle.c_electrons.proofs.lpmag_three_d.Tie as tie
@@ -9,14 +9,14 @@ use Rattle.c_electrons.proofs.lpmag_three_d.Tie as tie
 three-d-requires : tie.Need-three-d-requires
 three-d-requires c κs = search needs
 
-hand-out-requires : tie.Need-hand-out-requires
-hand-out-requires c κs = search needs
+hand-count-requires : tie.Need-hand-count-requires
+hand-count-requires c κs = search needs
 
 returns : tie.Need-returns
 returns c =
     let k = c .before .before .before in
     let a = k .before .before .args in
-    count-told _ (k .three-d .result) (now (a .low)) (now (a .high)) _ _ _ (k .three-d .ensures) (c .hand-out .ensures)
+    count-told _ (k .three-d .result) (now (a .low)) (now (a .high)) _ _ _ (k .three-d .ensures) (c .hand-count .ensures)
 
 pub lpmag-three-d-spec : {M : Type 1} → statement M
-lpmag-three-d-spec = tie.close (tie.spec three-d-requires hand-out-requires returns)
+lpmag-three-d-spec = tie.close (tie.spec three-d-requires hand-count-requires returns)

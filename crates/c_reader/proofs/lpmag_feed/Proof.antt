@@ -17,10 +17,11 @@ use Rattle.c_reader.proofs.lpmag_feed.Statement as stated
 use Rattle.c_reader.proofs.lpmag_feed.Code as code
 
 abbrev says : Says state fed feeding
-says s f oc fc os fs bytes y oc′ fc′ os′ fs′ = FeedGiven s f (buffers oc fc os fs) bytes y (buffers oc′ fc′ os′ fs′)
+says s f oc fc os fs so sf ss bytes y oc′ fc′ os′ fs′ so′ sf′ ss′ = FeedGiven s f (buffers oc fc os fs so sf ss) bytes y (buffers oc′ fc′ os′ fs′ so′ sf′ ss′)
 
 keeps : Keeps state fed feeding says
-keeps s f oc fc os fs bytes y oc′ fc′ os′ fs′ is z = feed-kept s (buffers oc fc os fs) (buffers oc′ fc′ os′ fs′) f bytes y is z .0
+keeps s f oc fc os fs so sf ss bytes y oc′ fc′ os′ fs′ so′ sf′ ss′ is z =
+    feed-kept s (buffers oc fc os fs so sf ss) (buffers oc′ fc′ os′ fs′ so′ sf′ ss′) f bytes y is z .0
 
 pub lpmag-feed-spec : {M : Type 1} → stated.statement M
 unfolding code.routine tablesOf

@@ -17,10 +17,11 @@ use Rattle.c_reader.proofs.lpmag_finish.Statement as stated
 use Rattle.c_reader.proofs.lpmag_finish.Code as code
 
 abbrev says : Says state closed finished
-says s c oc fc os fs y oc′ fc′ os′ fs′ = FinishGiven s c (buffers oc fc os fs) y (buffers oc′ fc′ os′ fs′)
+says s c oc fc os fs so sf ss y oc′ fc′ os′ fs′ so′ sf′ ss′ = FinishGiven s c (buffers oc fc os fs so sf ss) y (buffers oc′ fc′ os′ fs′ so′ sf′ ss′)
 
 keeps : Keeps state closed finished says
-keeps s c oc fc os fs y oc′ fc′ os′ fs′ is z = finish-kept s (buffers oc fc os fs) (buffers oc′ fc′ os′ fs′) c y is z .0
+keeps s c oc fc os fs so sf ss y oc′ fc′ os′ fs′ so′ sf′ ss′ is z =
+    finish-kept s (buffers oc fc os fs so sf ss) (buffers oc′ fc′ os′ fs′ so′ sf′ ss′) c y is z .0
 
 pub lpmag-finish-spec : {M : Type 1} → stated.statement M
 unfolding code.routine tablesOf

@@ -17,10 +17,11 @@ use Rattle.c_reader.proofs.lpmag_step.Statement as stated
 use Rattle.c_reader.proofs.lpmag_step.Code as code
 
 abbrev says : Says state report stepped
-says s p oc fc os fs r y oc′ fc′ os′ fs′ = StepGiven s p (buffers oc fc os fs) r y (buffers oc′ fc′ os′ fs′)
+says s p oc fc os fs so sf ss r y oc′ fc′ os′ fs′ so′ sf′ ss′ = StepGiven s p (buffers oc fc os fs so sf ss) r y (buffers oc′ fc′ os′ fs′ so′ sf′ ss′)
 
 keeps : Keeps state report stepped says
-keeps s p oc fc os fs r y oc′ fc′ os′ fs′ is z = step-kept s (buffers oc fc os fs) (buffers oc′ fc′ os′ fs′) p r y is z .0
+keeps s p oc fc os fs so sf ss r y oc′ fc′ os′ fs′ so′ sf′ ss′ is z =
+    step-kept s (buffers oc fc os fs so sf ss) (buffers oc′ fc′ os′ fs′ so′ sf′ ss′) p r y is z .0
 
 pub lpmag-step-spec : {M : Type 1} → stated.statement M
 unfolding code.routine tablesOf

@@ -3,9 +3,6 @@
 use borrow.Author.Needs.{needs}
 use Rattle.state.proofs.fresh.Statement.{statement}
 use Rattle.state.proofs.fresh.Tie as tie
-use Rattle.accumulation.proofs.no_accumulation.Reads as no-accumulation-reads
-use Rattle.clock.proofs.unset.Reads as unset-reads
-use Rattle.major.proofs.no_major.Reads as no-major-reads
 
 unset-requires : tie.Need-unset-requires
 unset-requires c κs = search needs
@@ -16,8 +13,20 @@ no-accumulation-requires c κs = search needs
 no-major-requires : tie.Need-no-major-requires
 no-major-requires c κs = search needs
 
+no-snapshot-requires : tie.Need-no-snapshot-requires
+no-snapshot-requires c κs = search needs
+
 returns : tie.Need-returns
-returns c = rw (c .no-major .ensures, c .before .no-accumulation .ensures, c .before .before .unset .ensures)
+returns c =
+    let m = c .before in
+    rw (c .no-snapshot .ensures, m .no-major .ensures, m .before .no-accumulation .ensures, m .before .before .unset .ensures)
 
 pub fresh-spec : {M : Type 1} → statement M
-fresh-spec = tie.close (tie.spec unset-requires no-accumulation-requires no-major-requires returns)
+fresh-spec =
+    tie.close
+    (tie.spec
+    unset-requires
+    no-accumulation-requires
+    no-major-requires
+    no-snapshot-requires
+    returns)

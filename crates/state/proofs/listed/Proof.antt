@@ -1,6 +1,6 @@
 -- `state::listed` meets its contract.
 -- Assumes nothing.
-use mathlib.Core.Bool.{and-false, and-true}
+use mathlib.Core.Bool.{and-false}
 use Rattle.tables.proofs.Conds.{held, fails}
 use Rattle.clock.specs.Clock.{clockListed}
 use Rattle.accumulation.specs.List.{accumulationListed}
@@ -8,9 +8,6 @@ use Rattle.state.specs.List.{listed}
 use borrow.Author.Needs.{needs}
 use Rattle.state.proofs.listed.Statement.{statement}
 use Rattle.state.proofs.listed.Tie as tie
-use Rattle.accumulation.proofs.is_listed.Reads as list-is-listed-reads
-use Rattle.clock.proofs.is_listed.Reads as is-listed-reads
-use Rattle.major.proofs.is_listed.Reads as list-is-listed-reads′
 
 is-listed-requires : tie.Need-is-listed-requires
 is-listed-requires c κs = search needs
@@ -35,18 +32,20 @@ returns-2 c = rw (fails (c .before .is-listed2 .ensures) (c .if2 .taken))
 is-listed-requires-3 : tie.Need-is-listed-requires-3
 is-listed-requires-3 c κs = search needs
 
+is-listed-requires-4 : tie.Need-is-listed-requires-4
+is-listed-requires-4 c κs = search needs
+
 returns-3 : tie.Need-returns-3
 unfolding listed
 returns-3 c =
-    let m = c .before in
+    let m = c .before .before in
     let k = m .before .before in
-    let s = k .before .before .args .state in
     rw (
       held (k .before .is-listed .ensures) (k .if1 .left),
       held (m .before .is-listed2 .ensures) (m .if2 .left),
-      and-true (accumulationListed (s .clock) (s .accumulation)),
+      c .before .is-listed3 .ensures,
+      c .is-listed4 .ensures,
     )
-    (c .is-listed3 .ensures)
 
 pub listed-spec : {M : Type 1} → statement M
 listed-spec =
@@ -57,4 +56,5 @@ listed-spec =
     is-listed-requires-2
     returns-2
     is-listed-requires-3
+    is-listed-requires-4
     returns-3)

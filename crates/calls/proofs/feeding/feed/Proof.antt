@@ -1,7 +1,6 @@
 -- `calls::feeding::feed` meets its contract.
 -- Assumes nothing.
 use denote.Ref.{now}
-use Rattle.reader.specs.Buffers.{buffers}
 use Rattle.tables.proofs.Conds.{held, fails}
 use Rattle.calls.proofs.Handed.{feed-unread, feed-given}
 use borrow.Author.Needs.{needs}
@@ -17,9 +16,8 @@ is-ready-requires c κs = search needs
 returns : tie.Need-returns
 returns c =
     let k = c .before in
-    let a = k .before .before .before .before .before .args in
-    let b = buffers (now (a .open-cells)) (now (a .finished-cells)) (now (a .open-samples)) (now (a .finished-samples)) in
-    feed-unread (a .state) b (a .fed) (now (a .bytes)) (fails (rw (k .before .right-sizes .ensures) at (k .is-ready .ensures)) (c .if1 .taken))
+    let a = k .before .before .before .before .before .before .before .before .args in
+    feed-unread (a .state) _ (a .fed) (now (a .bytes)) (fails (rw (k .before .right-sizes .ensures) at (k .is-ready .ensures)) (c .if1 .taken))
 
 state-in-requires : tie.Need-state-in-requires
 state-in-requires c κs = search needs
@@ -45,18 +43,26 @@ same-length-3 c = search needs
 same-length-4 : tie.Need-same-length-4
 same-length-4 c = search needs
 
+same-length-5 : tie.Need-same-length-5
+same-length-5 c = search needs
+
+same-length-6 : tie.Need-same-length-6
+same-length-6 c = search needs
+
+same-length-7 : tie.Need-same-length-7
+same-length-7 c = search needs
+
 returns-2 : tie.Need-returns-2
 returns-2 c =
-    let t = c .before .before .before .before .before .before .before .before in
-    let i = t .before .before .before .before .before in
+    let t = c .before .before .before .before .before .before .before .before .before .before .before .before .before .before in
+    let i = t .before .before .before .before .before .before .before .before in
     let k = i .before .before in
-    let a = k .before .before .before .before .before .args in
-    let b = buffers (now (a .open-cells)) (now (a .finished-cells)) (now (a .open-samples)) (now (a .finished-samples)) in
-    feed-given (a .state) b (a .fed) (now (a .bytes))
+    let a = k .before .before .before .before .before .before .before .before .args in
+    feed-given (a .state) _ (a .fed) (now (a .bytes))
     (held (rw (k .before .right-sizes .ensures) at (k .is-ready .ensures)) (i .before .if1 .left))
     _ _ (rw (i .state-in .ensures) at (t .feed .ensures)) _ _ (c .before .state-out .ensures) (c .fed-out .ensures)
 
 pub feed-spec : {M : Type 1} → statement M
 feed-spec =
     tie.close (tie.spec right-sizes-requires is-ready-requires returns state-in-requires feed-requires state-out-requires
-    fed-out-requires same-length same-length-2 same-length-3 same-length-4 returns-2)
+    fed-out-requires same-length same-length-2 same-length-3 same-length-4 same-length-5 same-length-6 same-length-7 returns-2)

@@ -1,23 +1,27 @@
 -- `cells::raw::cell` meets its contract.
 -- Assumes nothing.
 use denote.Ref.{now}
-use Rattle.cells.proofs.Answers.{no-size, no-mark, no-cell, is-absent, is-held}
-use borrow.Author.Tests.{not-true, not-false}
+use Rattle.tables.proofs.Conds.{held, fails}
+use Rattle.carriage.specs.Carriage.{types, cells}
+use Rattle.cells.specs.Laying.{cellsSize}
+use Rattle.cells.proofs.Bytes.{no-size, no-mark, no-place, not-held, is-held}
 use native.Mathlib.Omega.{arith}
 use borrow.Author.Needs.{needs}
 use Rattle.cells.proofs.raw.cell.Statement.{statement}
 use Rattle.cells.proofs.raw.cell.Tie as tie
 
 returns : tie.Need-returns
-returns c = let a = c .before .before .args in no-size (now (a .cells)) (a .held) (a .p) (c .if1 .taken)
+returns c = let a = c .before .before .args in no-size cellsSize types cells (now (a .cells)) (a .held) (a .p) _ _ (c .if1 .taken)
 
 returns-2 : tie.Need-returns-2
-returns-2 c = let a = c .before .before .before .args in no-mark (now (a .cells)) (a .held) (a .p) (c .before .if1 .left) (omega arith)
+returns-2 c =
+    let a = c .before .before .before .args in
+    no-mark cellsSize types cells (now (a .cells)) (a .held) (a .p) _ _ (c .before .if1 .left) (omega arith)
 
 returns-3 : tie.Need-returns-3
 returns-3 c =
     let a = c .before .before .before .before .args in
-    no-cell (now (a .cells)) (a .held) (a .p) (c .before .before .if1 .left) (omega arith) (omega arith)
+    no-place cellsSize types cells (now (a .cells)) (a .held) (a .p) _ _ (c .before .before .if1 .left) (omega arith) (omega arith)
 
 holds-cell-requires : tie.Need-holds-cell-requires
 holds-cell-requires c κs = search needs
@@ -26,8 +30,8 @@ returns-4 : tie.Need-returns-4
 returns-4 c =
     let k = c .before in
     let a = k .before .before .before .before .before .args in
-    is-absent (now (a .cells)) (a .held) (a .p) (omega arith) (omega arith) (omega arith)
-    (k .holds-cell .result) (k .holds-cell .ensures) (not-true _ (c .if4 .taken))
+    not-held cellsSize types cells (now (a .cells)) (a .held) (a .p) _ _ (omega arith) (omega arith) (omega arith)
+    (fails (k .holds-cell .ensures) (c .if4 .taken))
 
 shared-slice-read-t8 : tie.Need-shared-slice-read-t8
 shared-slice-read-t8 c = search needs
@@ -36,8 +40,8 @@ returns-5 : tie.Need-returns-5
 returns-5 c =
     let k = c .before .before in
     let a = k .before .before .before .before .before .args in
-    is-held (now (a .cells)) (a .held) (a .p) (omega arith) (omega arith) (omega arith)
-    (k .holds-cell .result) (k .holds-cell .ensures) (not-false _ (c .before .if4 .left))
+    is-held cellsSize types cells (now (a .cells)) (a .held) (a .p) _ _ (omega arith) (omega arith) (omega arith)
+    (held (k .holds-cell .ensures) (c .before .if4 .left))
 
 pub cell-spec : {M : Type 1} → statement M
 cell-spec =

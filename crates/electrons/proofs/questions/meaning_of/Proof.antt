@@ -1,6 +1,6 @@
 -- `electrons::questions::meaning_of` meets its contract.
 -- Assumes nothing.
-use Rattle.electrons.proofs.Told.{counted-told}
+use Rattle.electrons.proofs.Meant.{counted-told}
 use borrow.Author.Needs.{needs}
 use Rattle.electrons.proofs.questions.meaning_of.Statement.{statement}
 use Rattle.electrons.proofs.questions.meaning_of.Tie as tie

@@ -15,7 +15,7 @@ cut-requires c κs = search needs
 
 add-end : tie.Need-add-end
 add-end c =
-    let s = c .before .before .before .before in
+    let s = c .before .before .before .before .before .before .before in
     omega (arith, ap length (c .cut .ensures .content), record-room (now (s .args .bytes)) (s .args .at), s)
 
 step-requires : tie.Need-step-requires
@@ -36,11 +36,20 @@ same-length-3 c = search needs
 same-length-4 : tie.Need-same-length-4
 same-length-4 c = search needs
 
+same-length-5 : tie.Need-same-length-5
+same-length-5 c = search needs
+
+same-length-6 : tie.Need-same-length-6
+same-length-6 c = search needs
+
+same-length-7 : tie.Need-same-length-7
+same-length-7 c = search needs
+
 returns : tie.Need-returns
 returns c =
-    let s = c .before .before .before .before .before .before .before .before .before in
-    let k = s .before .before .before .before .before in
-    let a = k .before .before .before .before .args in
+    let s = c .before .before .before .before .before .before .before .before .before .before .before .before .before .before .before in
+    let k = s .before .before .before .before .before .before .before .before in
+    let a = k .before .before .before .before .before .before .before .args in
     one-is (now (a .bytes)) (a .at) (k .cut .ensures .content) (s .step .ensures) (c .rule-of .ensures)
 
 pub feed-one-spec : {M : Type 1} → statement M
@@ -55,4 +64,7 @@ feed-one-spec =
     same-length-2
     same-length-3
     same-length-4
+    same-length-5
+    same-length-6
+    same-length-7
     returns)

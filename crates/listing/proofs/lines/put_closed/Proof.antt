@@ -1,10 +1,10 @@
--- `listing::lines::put_closed` meets its contract.
+-- `listing::lines::put_closed` meets its contract: a line after another.
 -- Assumes nothing.
 use denote.Ref.{now}
-use Rattle.listing.specs.Lines.{closedLines}
-use Rattle.listing.proofs.Closings.{length-major}
+use Rattle.listing.specs.Lines.{closedLines, closedSize}
+use Rattle.listing.proofs.Closings.{after-major, after-accum, after-first, closed-put}
 use Rattle.buffers.proofs.Patches.{no-room, has-room}
-use Rattle.listing.proofs.Puts.{put-then, is-written, not-written}
+use Rattle.listing.proofs.Puts.{is-written, not-written}
 use native.Mathlib.Omega.{arith}
 use borrow.Author.Needs.{needs}
 use Rattle.listing.proofs.lines.put_closed.Statement.{statement}
@@ -15,35 +15,59 @@ has-room-requires c κs = search needs
 
 returns : tie.Need-returns
 returns c =
-    let a = c .before .before .before .args in
-    let l = no-room (now (a .out)) (a .at) 138 _ (c .before .has-room .ensures) (c .if1 .taken) in
-    not-written 138 (closedLines (a .closed)) (now (a .out)) (a .at) l
+    let r = c .before in
+    let a = r .before .before .args in
+    let l = no-room (now (a .out)) (a .at) closedSize _ (r .has-room .ensures) (c .if1 .taken) in
+    not-written closedSize (closedLines (a .closed)) (now (a .out)) (a .at) l
 
 put-major-requires : tie.Need-put-major-requires
 put-major-requires c κs =
     let i = c .before in
     let a = i .before .before .before .args in
-    omega (arith, has-room (now (a .out)) (a .at) 138 _ (i .before .has-room .ensures) (i .if1 .left))
+    omega (arith, has-room (now (a .out)) (a .at) closedSize _ (i .before .has-room .ensures) (i .if1 .left))
 
 put-accumulation-requires : tie.Need-put-accumulation-requires
 put-accumulation-requires c κs =
-    let i = c .before .before .before .before .before in
+    let m = c .before .before .before in
+    let i = m .before .before in
     let a = i .before .before .before .args in
-    let h = has-room (now (a .out)) (a .at) 138 _ (i .before .has-room .ensures) (i .if1 .left) in
-    omega (arith, length-major (a .closed .major), h)
+    let h = has-room (now (a .out)) (a .at) closedSize _ (i .before .has-room .ensures) (i .if1 .left) in
+    omega (arith, after-major (a .closed) h (m .put-major .ensures))
+
+put-snapshot-requires : tie.Need-put-snapshot-requires
+put-snapshot-requires c κs =
+    let n = c .before .before .before in
+    let m = n .before .before .before .before in
+    let i = m .before .before in
+    let a = i .before .before .before .args in
+    let h = has-room (now (a .out)) (a .at) closedSize _ (i .before .has-room .ensures) (i .if1 .left) in
+    omega (arith, after-accum (a .closed) h (m .put-major .ensures) (n .put-accumulation .ensures))
+
+put-snapshot-requires-2 : tie.Need-put-snapshot-requires-2
+put-snapshot-requires-2 c κs =
+    let s = c .before .before .before in
+    let n = s .before .before .before .before in
+    let m = n .before .before .before .before in
+    let i = m .before .before in
+    let a = i .before .before .before .args in
+    let h = has-room (now (a .out)) (a .at) closedSize _ (i .before .has-room .ensures) (i .if1 .left) in
+    after-first (a .closed) h (m .put-major .ensures) (n .put-accumulation .ensures) (s .put-snapshot .ensures)
 
 same-length : tie.Need-same-length
 same-length c = search needs
 
 returns-2 : tie.Need-returns-2
-unfolding closedLines
 returns-2 c =
-    let m = c .before .before .before .before .before .before in
+    let t = c .before .before in
+    let s = t .before .before .before .before in
+    let n = s .before .before .before .before in
+    let m = n .before .before .before .before in
     let i = m .before .before in
     let a = i .before .before .before .args in
-    let h = has-room (now (a .out)) (a .at) 138 _ (i .before .has-room .ensures) (i .if1 .left) in
-    let l = length-major (a .closed .major) in
-    is-written (put-then (m .put-major .ensures) (omega (arith, h, l)) (c .before .before .put-accumulation .ensures)) 138 h
+    let h = has-room (now (a .out)) (a .at) closedSize _ (i .before .has-room .ensures) (i .if1 .left) in
+    let q =
+    closed-put (a .closed) h (m .put-major .ensures) (n .put-accumulation .ensures) (s .put-snapshot .ensures) (t .put-snapshot2 .ensures) in
+    is-written q closedSize h
 
 pub put-closed-spec : {M : Type 1} → statement M
 put-closed-spec =
@@ -53,5 +77,7 @@ put-closed-spec =
     returns
     put-major-requires
     put-accumulation-requires
+    put-snapshot-requires
+    put-snapshot-requires-2
     same-length
     returns-2)

@@ -2,15 +2,10 @@
 -- Assumes nothing.
 use denote.Ref.{now}
 use Rattle.reader.specs.Buffers.{buffers}
-use Rattle.reader.proofs.Outcomes.{samples-ready, cells-ready, all-worked, step-is}
+use Rattle.reader.proofs.Outcomes.{all-worked, step-ready, step-is}
 use borrow.Author.Needs.{needs}
 use Rattle.reader.proofs.steps.step.Statement.{statement}
 use Rattle.reader.proofs.steps.step.Tie as tie
-use Rattle.reader.proofs.cells_part.work_cells.Reads as work-cells-reads
-use Rattle.reader.proofs.samples_part.work_samples.Reads as work-samples-reads
-use Rattle.reader.proofs.steps.right_sizes.Reads as right-sizes-reads
-use Rattle.record.proofs.packet_in.Reads as packet-in-reads
-use Rattle.state.proofs.decide.Reads as decide-reads
 
 right-sizes-requires : tie.Need-right-sizes-requires
 right-sizes-requires c κs = search needs
@@ -25,19 +20,37 @@ work-samples-requires : tie.Need-work-samples-requires
 work-samples-requires c κs =
     let p = c .before .before in
     let d = p .before .before .before in
-    let a = d .before .before .before .before .before .args in
-    let b = buffers (now (a .open-cells)) (now (a .finished-cells)) (now (a .open-samples)) (now (a .finished-samples)) in
-    samples-ready (a .state) b (now (a .r)) _ (d .before .right-sizes .ensures) _ (d .decide .ensures)
-    _ (a .r .ptr) _ (p .packet-in .ensures)
+    let a = d .before .before .before .before .before .before .before .before .args in
+    let b =
+    buffers (now (a .open-cells)) (now (a .finished-cells)) (now (a .open-samples)) (now (a .finished-samples))
+    (now (a .open-snapshot)) (now (a .first-snapshot)) (now (a .second-snapshot))
+    in
+    step-ready (a .state) b (now (a .r)) _ (d .before .right-sizes .ensures) _ (d .decide .ensures) _ (a .r .ptr) _ (p .packet-in .ensures) .samples
 
 work-cells-requires : tie.Need-work-cells-requires
 work-cells-requires c κs =
-    let p = c .before .before .before .before .before .before .before in
+    let v = c .before .before .before .before in
+    let p = v .before .before .before in
     let d = p .before .before .before in
-    let a = d .before .before .before .before .before .args in
-    let b = buffers (now (a .open-cells)) (now (a .finished-cells)) (now (a .open-samples)) (now (a .finished-samples)) in
-    cells-ready (a .state) b (now (a .r)) _ (d .before .right-sizes .ensures) _ (d .decide .ensures)
-    _ (a .r .ptr) _ (p .packet-in .ensures)
+    let a = d .before .before .before .before .before .before .before .before .args in
+    let b =
+    buffers (now (a .open-cells)) (now (a .finished-cells)) (now (a .open-samples)) (now (a .finished-samples))
+    (now (a .open-snapshot)) (now (a .first-snapshot)) (now (a .second-snapshot))
+    in
+    step-ready (a .state) b (now (a .r)) _ (d .before .right-sizes .ensures) _ (d .decide .ensures) _ (a .r .ptr) _ (p .packet-in .ensures) .cells
+
+work-snapshot-requires : tie.Need-work-snapshot-requires
+work-snapshot-requires c κs =
+    let w = c .before .before .before .before .before .before .before in
+    let v = w .before .before .before .before .before in
+    let p = v .before .before .before in
+    let d = p .before .before .before in
+    let a = d .before .before .before .before .before .before .before .before .args in
+    let b =
+    buffers (now (a .open-cells)) (now (a .finished-cells)) (now (a .open-samples)) (now (a .finished-samples))
+    (now (a .open-snapshot)) (now (a .first-snapshot)) (now (a .second-snapshot))
+    in
+    step-ready (a .state) b (now (a .r)) _ (d .before .right-sizes .ensures) _ (d .decide .ensures) _ (a .r .ptr) _ (p .packet-in .ensures) .snapshot
 
 same-length : tie.Need-same-length
 same-length c = search needs
@@ -51,16 +64,32 @@ same-length-3 c = search needs
 same-length-4 : tie.Need-same-length-4
 same-length-4 c = search needs
 
+same-length-5 : tie.Need-same-length-5
+same-length-5 c = search needs
+
+same-length-6 : tie.Need-same-length-6
+same-length-6 c = search needs
+
+same-length-7 : tie.Need-same-length-7
+same-length-7 c = search needs
+
 returns : tie.Need-returns
 returns c =
-    let w = c .before .before .before .before in
+    let n = c .before .before .before .before .before .before in
+    let w = n .before .before .before .before .before .before .before .before in
     let v = w .before .before .before .before .before in
     let p = v .before .before .before in
     let d = p .before .before .before in
-    let a = d .before .before .before .before .before .args in
-    let b = buffers (now (a .open-cells)) (now (a .finished-cells)) (now (a .open-samples)) (now (a .finished-samples)) in
-    step-is (a .state) b (now (a .r)) _ (d .before .right-sizes .ensures) _ (d .decide .ensures) _ (a .r .ptr) _ (p .packet-in .ensures) _
-    (all-worked (d .decide .result .works) _ b _ _ _ _ (v .work-samples .ensures) (w .work-cells .ensures))
+    let a = d .before .before .before .before .before .before .before .before .args in
+    let b =
+    buffers (now (a .open-cells)) (now (a .finished-cells)) (now (a .open-samples)) (now (a .finished-samples))
+    (now (a .open-snapshot)) (now (a .first-snapshot)) (now (a .second-snapshot))
+    in
+    let done =
+    all-worked (d .decide .result .works) (now (p .packet-in .result)) b
+    _ _ _ _ _ _ _ (v .work-samples .ensures) (w .work-cells .ensures) (n .work-snapshot .ensures)
+    in
+    step-is (a .state) b (now (a .r)) _ (d .before .right-sizes .ensures) _ (d .decide .ensures) _ (a .r .ptr) _ (p .packet-in .ensures) _ done
 
 pub step-spec : {M : Type 1} → statement M
 step-spec =
@@ -71,8 +100,12 @@ step-spec =
     packet-in-requires
     work-samples-requires
     work-cells-requires
+    work-snapshot-requires
     same-length
     same-length-2
     same-length-3
     same-length-4
+    same-length-5
+    same-length-6
+    same-length-7
     returns)

@@ -14,6 +14,12 @@ enum-told-2 c = search needs
 enum-told-3 : tie.Need-enum-told-3
 enum-told-3 c = search needs
 
+enum-told-4 : tie.Need-enum-told-4
+enum-told-4 c = search needs
+
+enum-told-5 : tie.Need-enum-told-5
+enum-told-5 c = search needs
+
 returns : tie.Need-returns
 unfolding carriesMag
 returns c = search needs
@@ -26,6 +32,14 @@ returns-3 : tie.Need-returns-3
 unfolding carriesMag
 returns-3 c = search needs
 
+returns-4 : tie.Need-returns-4
+unfolding carriesMag
+returns-4 c = search needs
+
+returns-5 : tie.Need-returns-5
+unfolding carriesMag
+returns-5 c = search needs
+
 pub carries-mag-spec : {M : Type 1} → statement M
 carries-mag-spec =
-    tie.close (tie.spec enum-told enum-told-2 enum-told-3 returns returns-2 returns-3)
+    tie.close (tie.spec enum-told enum-told-2 enum-told-3 enum-told-4 enum-told-5 returns returns-2 returns-3 returns-4 returns-5)

@@ -15,6 +15,12 @@ enum-told c = search needs
 enum-told-2 : tie.Need-enum-told-2
 enum-told-2 c = search needs
 
+enum-told-3 : tie.Need-enum-told-3
+enum-told-3 c = search needs
+
+enum-told-4 : tie.Need-enum-told-4
+enum-told-4 c = search needs
+
 returns : tie.Need-returns
 unfolding kindNumber
 returns c = sym (ap kindNumber (c .before .kind .given .1))
@@ -27,5 +33,15 @@ returns-3 : tie.Need-returns-3
 unfolding kindNumber
 returns-3 c = sym (ap kindNumber (c .enum-told2 .given .1))
 
+returns-4 : tie.Need-returns-4
+unfolding kindNumber
+returns-4 c = sym (ap kindNumber (c .enum-told3 .given .1))
+
+returns-5 : tie.Need-returns-5
+unfolding kindNumber
+returns-5 c = sym (ap kindNumber (c .enum-told4 .given .1))
+
 pub kind-number-spec : {M : Type 1} → statement M
-kind-number-spec = tie.close (tie.spec enum-known-kind enum-told enum-told-2 returns returns-2 returns-3)
+kind-number-spec =
+    tie.close
+    (tie.spec enum-known-kind enum-told enum-told-2 enum-told-3 enum-told-4 returns returns-2 returns-3 returns-4 returns-5)

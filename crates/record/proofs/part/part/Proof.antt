@@ -3,6 +3,8 @@
 use Prim.Native.Nat.{_+_, _-_}
 use denote.Ref.{now}
 use native.Mathlib.Omega.{arith}
+use lib.ListN.{length}
+use borrow.Author.Tests.{eq-eqb, ne-eqb}
 use Rattle.record.proofs.Opened.{whole-part, no-part}
 use borrow.Author.Needs.{needs}
 use Rattle.record.proofs.part.part.Statement.{statement}
@@ -12,7 +14,9 @@ slice-aggregate-result : tie.Need-slice-aggregate-result
 slice-aggregate-result c = search needs
 
 returns : tie.Need-returns
-returns c = let a = c .before .before .args in no-part (now (a .b)) (a .size) (a .at) (a .n) (a .b .ptr) (c .before .if1 .taken)
+returns c =
+    let a = c .before .before .args in
+    no-part _ (now (a .b)) (a .at) (a .n) (a .b .ptr) (ne-eqb (length (now (a .b))) (a .size) (c .before .if1 .taken))
 
 add-result : tie.Need-add-result
 add-result c = search needs
@@ -29,7 +33,8 @@ part-result-end c = omega arith
 returns-2 : tie.Need-returns-2
 returns-2 c =
     let a = c .before .before .args in
-    whole-part (now (a .b)) (a .size) (a .at) (a .n) (a .b .ptr) (c .before .if1 .left) (a .at + a .n - a .at) (omega arith)
+    let t = eq-eqb (length (now (a .b))) (a .size) (c .before .if1 .left) in
+    whole-part _ (now (a .b)) (a .at) (a .n) (a .b .ptr) t (a .at + a .n - a .at) (omega arith)
 
 pub part-spec : {M : Type 1} → statement M
 part-spec =

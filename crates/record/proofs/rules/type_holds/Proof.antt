@@ -27,6 +27,12 @@ enum-told-2 c = search needs
 enum-told-3 : tie.Need-enum-told-3
 enum-told-3 c = search needs
 
+enum-told-4 : tie.Need-enum-told-4
+enum-told-4 c = search needs
+
+enum-told-5 : tie.Need-enum-told-5
+enum-told-5 c = search needs
+
 returns : tie.Need-returns
 unfolding defined
 returns c =
@@ -48,6 +54,20 @@ returns-3 c =
     let d = k .before .before .before in
     eleven-told (now (d .args .r)) (d .pre) (k .kind-of .ensures .is) (c .enum-told3 .given .1)
 
+returns-4 : tie.Need-returns-4
+unfolding defined
+returns-4 c =
+    let k = c .before .before in
+    let d = k .before .before .before in
+    eleven-told (now (d .args .r)) (d .pre) (k .kind-of .ensures .is) (c .enum-told4 .given .1)
+
+returns-5 : tie.Need-returns-5
+unfolding defined
+returns-5 c =
+    let k = c .before .before in
+    let d = k .before .before .before in
+    eleven-told (now (d .args .r)) (d .pre) (k .kind-of .ensures .is) (c .enum-told5 .given .1)
+
 pub type-holds-spec : {M : Type 1} → statement M
 type-holds-spec =
     tie.close
@@ -59,6 +79,10 @@ type-holds-spec =
     enum-told
     enum-told-2
     enum-told-3
+    enum-told-4
+    enum-told-5
     returns
     returns-2
-    returns-3)
+    returns-3
+    returns-4
+    returns-5)

@@ -28,6 +28,12 @@ shared-slice-read-code c = search needs
 kind-of-requires : tie.Need-kind-of-requires
 kind-of-requires c κs = search needs
 
+shared-slice-read-second-burst : tie.Need-shared-slice-read-second-burst
+shared-slice-read-second-burst c = search needs
+
+second-burst-requires : tie.Need-second-burst-requires
+second-burst-requires c κs = search needs
+
 reading-of-requires : tie.Need-reading-of-requires
 reading-of-requires c κs = search needs
 
@@ -40,14 +46,14 @@ word16-requires-2 c κs = search needs
 word32-requires : tie.Need-word32-requires
 word32-requires c κs = search needs
 
-cast-t11 : tie.Need-cast-t11
-cast-t11 c = search needs
-
-cast-t19 : tie.Need-cast-t19
-cast-t19 c = search needs
+cast-t12 : tie.Need-cast-t12
+cast-t12 c = search needs
 
 cast-t21 : tie.Need-cast-t21
 cast-t21 c = search needs
+
+cast-t23 : tie.Need-cast-t23
+cast-t23 c = search needs
 
 word16-requires-3 : tie.Need-word16-requires-3
 word16-requires-3 c κs = search needs
@@ -56,7 +62,8 @@ returns : tie.Need-returns
 unfolding recordOf
 returns c =
     let count = c .before .before .before in
-    let status = count .before .before .before .before in
+    let second = count .before .before in
+    let status = second .before .before .before .before in
     let d = status .before .before .before in
     let r = now (d .args .r) in
     let w = word r (d .pre) in
@@ -68,7 +75,8 @@ returns c =
       first-is r,
       second-is r,
       third-is r,
-      count .before .before .kind-of .ensures .is,
+      second .second-burst .ensures,
+      second .before .before .kind-of .ensures .is,
       c .word163 .ensures ∙ packet-word r (d .pre) 1 2 (omega arith),
       count .before .reading-of .ensures,
     )
@@ -83,12 +91,14 @@ record-of-spec =
     word16-requires
     shared-slice-read-code
     kind-of-requires
+    shared-slice-read-second-burst
+    second-burst-requires
     reading-of-requires
     word24-requires
     word16-requires-2
     word32-requires
-    cast-t11
-    cast-t19
+    cast-t12
     cast-t21
+    cast-t23
     word16-requires-3
     returns)

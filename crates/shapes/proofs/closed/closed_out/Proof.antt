@@ -13,18 +13,28 @@ flag-of-requires c κs = search needs
 flag-of-requires-2 : tie.Need-flag-of-requires-2
 flag-of-requires-2 c κs = search needs
 
+closed-snapshot-out-requires : tie.Need-closed-snapshot-out-requires
+closed-snapshot-out-requires c κs = search needs
+
+closed-snapshot-out-requires-2 : tie.Need-closed-snapshot-out-requires-2
+closed-snapshot-out-requires-2 c κs = search needs
+
 returns : tie.Need-returns
 returns c =
-    let x = c .before .before .before .before .before .args .closed in
+    let w = c .before .before in
+    let x = w .before .before .before .before .before .args .closed in
     λ i. record {
-      major = c .before .before .major-out .ensures i;
+      major = w .before .before .major-out .ensures i;
       «accumulation_first» = x .accumulation .first;
       «accumulation_held» = x .accumulation .held;
-      «major_closed» = c .before .flag-of .ensures i;
-      «accumulation_closed» = c .flag-of2 .ensures i;
+      «major_closed» = w .before .flag-of .ensures i;
+      «accumulation_closed» = w .flag-of2 .ensures i;
       spare16 = 0;
       spare32 = 0;
+      «first_snapshot» = c .before .closed-snapshot-out .ensures i;
+      «second_snapshot» = c .closed-snapshot-out2 .ensures i;
     }
 
 pub closed-out-spec : {M : Type 1} → statement M
-closed-out-spec = tie.close (tie.spec major-out-requires flag-of-requires flag-of-requires-2 returns)
+closed-out-spec =
+    tie.close (tie.spec major-out-requires flag-of-requires flag-of-requires-2 closed-snapshot-out-requires closed-snapshot-out-requires-2 returns)

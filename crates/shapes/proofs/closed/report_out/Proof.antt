@@ -20,6 +20,7 @@ returns c =
       gap = c .before .gap-number .ensures i;
       spare8 = 0;
       spare16 = 0;
+      spare32 = 0;
       closed = c .closed-out .ensures i;
     }
 

@@ -37,6 +37,9 @@ returns c =
       kind = c .before .before .kind-number .ensures i;
       «level_finite» = c .before .mark-of .ensures i;
       «quality_finite» = c .mark-of2 .ensures i;
+      «second_code» = f .«second_code»;
+      spare8 = 0;
+      spare16 = 0;
     }
 
 pub fields-out-spec : {M : Type 1} → statement M

@@ -11,14 +11,18 @@ accumulation-in-requires c κs = search needs
 major-in-requires : tie.Need-major-in-requires
 major-in-requires c κs = search needs
 
+snapshot-in-requires : tie.Need-snapshot-in-requires
+snapshot-in-requires c κs = search needs
+
 returns : tie.Need-returns
 returns c =
-    let k = c .before .before .before .args .c in
+    let k = c .before .before .before .before .args .c in
     λ i. record {
       clock = record { any = eqb (k .any) 1; last = k .last };
-      accumulation = c .before .accumulation-in .ensures i;
-      major = c .major-in .ensures i;
+      accumulation = c .before .before .accumulation-in .ensures i;
+      major = c .before .major-in .ensures i;
+      snapshot = c .snapshot-in .ensures i;
     }
 
 pub state-in-spec : {M : Type 1} → statement M
-state-in-spec = tie.close (tie.spec accumulation-in-requires major-in-requires returns)
+state-in-spec = tie.close (tie.spec accumulation-in-requires major-in-requires snapshot-in-requires returns)

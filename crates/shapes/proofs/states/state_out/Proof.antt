@@ -13,18 +13,23 @@ accumulation-out-requires c κs = search needs
 major-out-requires : tie.Need-major-out-requires
 major-out-requires c κs = search needs
 
+snapshot-out-requires : tie.Need-snapshot-out-requires
+snapshot-out-requires c κs = search needs
+
 returns : tie.Need-returns
 returns c =
-    let s = c .before .before .before .before .args .s in
+    let w = c .before .before .before in
+    let s = w .before .before .args .s in
     λ i. record {
       last = s .clock .last;
-      any = c .before .before .flag-of .ensures i;
+      any = w .flag-of .ensures i;
       spare8 = 0;
       spare16 = 0;
       spare32 = 0;
-      accumulation = c .before .accumulation-out .ensures i;
-      major = c .major-out .ensures i;
+      accumulation = c .before .before .accumulation-out .ensures i;
+      major = c .before .major-out .ensures i;
+      snapshot = c .snapshot-out .ensures i;
     }
 
 pub state-out-spec : {M : Type 1} → statement M
-state-out-spec = tie.close (tie.spec flag-of-requires accumulation-out-requires major-out-requires returns)
+state-out-spec = tie.close (tie.spec flag-of-requires accumulation-out-requires major-out-requires snapshot-out-requires returns)

@@ -8,14 +8,6 @@ use Rattle.state.proofs.Numbers.{off}
 use borrow.Author.Needs.{needs}
 use Rattle.state.proofs.ending.end.Statement.{statement}
 use Rattle.state.proofs.ending.end.Tie as tie
-use Rattle.accumulation.proofs.no_accumulation.Reads as no-accumulation-reads
-use Rattle.accumulation.proofs.report.Reads as steps-report-reads
-use Rattle.buffers.proofs.closing_work.Reads as closing-work-reads
-use Rattle.major.proofs.no_major.Reads as no-major-reads
-use Rattle.major.proofs.no_slot_work.Reads as no-slot-work-reads
-use Rattle.major.proofs.report.Reads as steps-report-reads′
-use Rattle.state.proofs.ending.not_ended.Reads as not-ended-reads
-use Rattle.state.proofs.listed.Reads as listed-reads
 
 not-ended-requires : tie.Need-not-ended-requires
 not-ended-requires c κs = search needs
@@ -44,11 +36,20 @@ no-accumulation-requires c κs = search needs
 no-major-requires : tie.Need-no-major-requires
 no-major-requires c κs = search needs
 
+no-snapshot-requires : tie.Need-no-snapshot-requires
+no-snapshot-requires c κs = search needs
+
 report-requires : tie.Need-report-requires
 report-requires c κs = search needs
 
 report-requires-2 : tie.Need-report-requires-2
 report-requires-2 c κs = search needs
+
+report-requires-3 : tie.Need-report-requires-3
+report-requires-3 c κs = search needs
+
+unreported-requires : tie.Need-unreported-requires
+unreported-requires c κs = search needs
 
 closing-work-requires : tie.Need-closing-work-requires
 closing-work-requires c κs = search needs
@@ -59,23 +60,46 @@ no-slot-work-requires c κs = search needs
 closing-work-requires-2 : tie.Need-closing-work-requires-2
 closing-work-requires-2 c κs = search needs
 
+closing-work-requires-3 : tie.Need-closing-work-requires-3
+closing-work-requires-3 c κs = search needs
+
+no-packet-work-requires : tie.Need-no-packet-work-requires
+no-packet-work-requires c κs = search needs
+
+no-work-requires : tie.Need-no-work-requires
+no-work-requires c κs = search needs
+
+no-packet-work-requires-2 : tie.Need-no-packet-work-requires-2
+no-packet-work-requires-2 c κs = search needs
+
 returns-3 : tie.Need-returns-3
 returns-3 c =
-    let m = c .before .before .before in
-    let r = m .before .before in
+    let one = c .before .before in
+    let cells = one .before .before .before in
+    let slot = cells .before .before in
+    let u = slot .before .before .before in
+    let r = u .before in
     let o = r .before .before .before in
-    let l = o .before .before .before .before .before in
-    let a = l .before .before .args in
+    let none = o .before .before in
+    let l = none .before .before .before .before .before in
+    let a = l .before .before .before .args in
     is-ended (a .state) (a .sized) _
-    (rw (not-false (a .sized) (l .before .if1 .left), held (l .listed .ensures) (o .before .before .before .before .if2 .left)))
+    (rw (not-false (a .sized) (l .before .before .if1 .left), held (l .before .listed .ensures) (l .if2 .left)))
     (rw (
-      c .closing-work2 .ensures,
-      c .before .before .no-slot-work .ensures,
-      m .closing-work .ensures,
-      r .report2 .ensures,
-      r .before .report .ensures,
-      r .before .before .no-major .ensures,
-      o .no-accumulation .ensures,
+      c .no-packet-work2 .ensures,
+      c .before .no-work .ensures,
+      one .no-packet-work .ensures,
+      one .before .closing-work3 .ensures,
+      cells .closing-work2 .ensures,
+      slot .no-slot-work .ensures,
+      slot .before .closing-work .ensures,
+      u .unreported .ensures,
+      r .report3 .ensures,
+      r .before .report2 .ensures,
+      r .before .before .report .ensures,
+      o .no-snapshot .ensures,
+      o .before .no-major .ensures,
+      none .no-accumulation .ensures,
     ))
 
 pub end-spec : {M : Type 1} → statement M
@@ -89,9 +113,16 @@ end-spec =
     returns-2
     no-accumulation-requires
     no-major-requires
+    no-snapshot-requires
     report-requires
     report-requires-2
+    report-requires-3
+    unreported-requires
     closing-work-requires
     no-slot-work-requires
     closing-work-requires-2
+    closing-work-requires-3
+    no-packet-work-requires
+    no-work-requires
+    no-packet-work-requires-2
     returns-3)

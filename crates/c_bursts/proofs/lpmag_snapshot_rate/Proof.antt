@@ -1,0 +1,22 @@
+-- `c_bursts::lpmag_snapshot_rate` meets its contract.
+-- Assumes nothing.
+use denote.Ref.{now}
+use Rattle.c_answers.proofs.Handing.{count-told}
+use borrow.Author.Needs.{needs}
+use Rattle.c_bursts.proofs.lpmag_snapshot_rate.Statement.{statement}
+use Rattle.c_bursts.proofs.lpmag_snapshot_rate.Tie as tie
+
+rate-requires : tie.Need-rate-requires
+rate-requires c κs = search needs
+
+hand-count-requires : tie.Need-hand-count-requires
+hand-count-requires c κs = search needs
+
+returns : tie.Need-returns
+returns c =
+    let k = c .before .before .before in
+    let a = k .before .before .args in
+    count-told _ (k .rate .result) (now (a .low)) (now (a .high)) _ _ _ (k .rate .ensures) (c .hand-count .ensures)
+
+pub lpmag-snapshot-rate-spec : {M : Type 1} → statement M
+lpmag-snapshot-rate-spec = tie.close (tie.spec rate-requires hand-count-requires returns)

@@ -1,0 +1,22 @@
+-- `c_bursts::lpmag_snapshot_total` meets its contract.
+-- Assumes nothing.
+use denote.Ref.{now}
+use Rattle.c_answers.proofs.Handing.{count-told}
+use borrow.Author.Needs.{needs}
+use Rattle.c_bursts.proofs.lpmag_snapshot_total.Statement.{statement}
+use Rattle.c_bursts.proofs.lpmag_snapshot_total.Tie as tie
+
+total-requires : tie.Need-total-requires
+total-requires c κs = search needs
+
+hand-count-requires : tie.Need-hand-count-requires
+hand-count-requires c κs = search needs
+
+returns : tie.Need-returns
+returns c =
+    let k = c .before .before .before in
+    let a = k .before .before .args in
+    count-told _ (k .total .result) (now (a .low)) (now (a .high)) _ _ _ (k .total .ensures) (c .hand-count .ensures)
+
+pub lpmag-snapshot-total-spec : {M : Type 1} → statement M
+lpmag-snapshot-total-spec = tie.close (tie.spec total-requires hand-count-requires returns)

@@ -1,0 +1,48 @@
+-- `reader::snapshot_part::work_snapshot` meets its contract.
+-- Assumes nothing.
+use mathlib.Core.Path.{sym}
+use Rattle.reader.proofs.Laid.{idle-worked}
+use borrow.Author.Needs.{needs}
+use Rattle.reader.proofs.snapshot_part.work_snapshot.Statement.{statement}
+use Rattle.reader.proofs.snapshot_part.work_snapshot.Tie as tie
+
+is-busy-requires : tie.Need-is-busy-requires
+is-busy-requires c κs = search needs
+
+is-busy-requires-2 : tie.Need-is-busy-requires-2
+is-busy-requires-2 c κs = search needs
+
+work-packets-requires : tie.Need-work-packets-requires
+work-packets-requires c κs = c .before .before .before .before .before .before .before .before .before .before .pre
+
+same-length : tie.Need-same-length
+same-length c = search needs
+
+same-length-2 : tie.Need-same-length-2
+same-length-2 c = search needs
+
+same-length-3 : tie.Need-same-length-3
+same-length-3 c = search needs
+
+returns : tie.Need-returns
+returns c = c .before .before .before .before .before .before .work-packets .ensures
+
+returns-2 : tie.Need-returns-2
+returns-2 c =
+    let two = c .before in
+    let one = two .before in
+    let a = one .before .before .before .before .before .args in
+    idle-worked (a .one) (a .two) _ _ _ _ (rw (sym (one .is-busy .ensures), sym (two .is-busy2 .ensures)) (c .if1 .left))
+
+pub work-snapshot-spec : {M : Type 1} → statement M
+work-snapshot-spec =
+    tie.close
+    (tie.spec
+    is-busy-requires
+    is-busy-requires-2
+    work-packets-requires
+    same-length
+    same-length-2
+    same-length-3
+    returns
+    returns-2)

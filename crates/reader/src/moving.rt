@@ -1,0 +1,22 @@
+// A buffer of bytes copied to a finished one, and cleared, where that is to be done.
+ghost use mathlib.Core.Bool.{true};
+ghost use mathlib.Core.Path.{_≡_};
+ghost use lib.ListN.{length};
+ghost use Rattle.reader.specs.Buffers.{copiedBy, clearedBy};
+
+pub(crate) fn copy_where(copies: bool, from: &[u8], finished: &mut [u8])
+    requires { ⌜ (copies ≡ true → length (now from) ≡ length (now finished)) ⌝ }
+    ensures { λ _. ⌜ now (finished .exit) ≡ copiedBy copies (now (from .entry)) (now (finished .entry)) ⌝ }
+{
+    if copies {
+        buffers::copy(from, finished);
+    }
+}
+
+pub(crate) fn clear_where(clears: bool, bytes: &mut [u8])
+    ensures { λ _. ⌜ now (bytes .exit) ≡ clearedBy clears 0 (now (bytes .entry)) ⌝ }
+{
+    if clears {
+        buffers::clear(bytes);
+    }
+}

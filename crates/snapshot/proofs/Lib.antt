@@ -1,0 +1,4 @@
+pub mod Counts
+pub mod Facts
+pub mod Keeping
+pub mod Closing

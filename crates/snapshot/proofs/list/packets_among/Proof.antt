@@ -1,0 +1,13 @@
+-- `snapshot::list::packets_among` meets its contract.
+-- Assumes nothing.
+use Rattle.snapshot.specs.List.{packetsAmong}
+use mathlib.Core.Path.{refl}
+use Rattle.snapshot.proofs.list.packets_among.Statement.{statement}
+use Rattle.snapshot.proofs.list.packets_among.Tie as tie
+
+returns : tie.Need-returns
+unfolding packetsAmong
+returns c = refl
+
+pub packets-among-spec : {M : Type 1} → statement M
+packets-among-spec = tie.close (tie.spec returns)

@@ -1,0 +1,18 @@
+-- `snapshot::steps::report` meets its contract.
+-- Assumes nothing.
+use borrow.Author.Tests.{eq-eqb, ne-eqb}
+use borrow.Author.Needs.{needs}
+use Rattle.snapshot.proofs.steps.report.Statement.{statement}
+use Rattle.snapshot.proofs.steps.report.Tie as tie
+
+unreported-requires : tie.Need-unreported-requires
+unreported-requires c κs = search needs
+
+returns : tie.Need-returns
+returns c = rw (eq-eqb _ 0 (c .before .if1 .taken)) (c .unreported .ensures)
+
+returns-2 : tie.Need-returns-2
+returns-2 c = rw (ne-eqb _ 0 (c .if1 .left))
+
+pub report-spec : {M : Type 1} → statement M
+report-spec = tie.close (tie.spec unreported-requires returns returns-2)

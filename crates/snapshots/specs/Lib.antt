@@ -1,0 +1,3 @@
+pub mod Raw
+pub mod Questions
+pub mod Steps
