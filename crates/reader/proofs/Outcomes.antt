@@ -1,13 +1,14 @@
 -- What the code of step and finish comes to is what their definitions say.
 -- Assumes nothing.
-use mathlib.Core.Path.{_≡_, refl, sym, ap, subst, _∙_}
+use mathlib.Core.Path.{_≡_, refl, sym, ap, subst, subst⁻¹, _∙_}
 use mathlib.Core.Bool.{Bool, true, false, cond, _&&_, true≢false}
 use mathlib.Core.List.{List, []}
-use Prim.Native.Nat.{ℕ, _+_, _<_, _≤_}
+use Prim.Native.Nat.{ℕ, _+_, _-_, _<_, _≤_}
 use native.Mathlib.Omega.{arith}
 use lib.Dec.{eqb}
-use lib.IntN.{ℤ}
-use lib.ListN.{length, length-take, length-drop}
+use lib.IntN.{ℤ, pos}
+use lib.ListN.{length, take, drop, length-take, length-drop}
+use lib.Seq.{take-all}
 use borrow.Author.Tests.{eq-eqb, eqb-true, eqb-false}
 use Rattle.tables.proofs.Conds.{two}
 use Rattle.record.specs.Layout.{size, packetSize, packetBytes, frameCode}
@@ -24,13 +25,14 @@ use Rattle.state.specs.Ending.{unended, ending, endedOf, endNumber, EndedIs}
 use Rattle.state.specs.declared.State.{State}
 use Rattle.state.specs.declared.closed.Works.{Works}
 use Rattle.state.specs.declared.deciding.Decided.{Decided}
+use Rattle.state.specs.declared.deciding.Stepped.{Stepped}
 use Rattle.state.specs.declared.ending.Ended.{Ended}
 use Rattle.state.proofs.Numbers.{refused-is}
 use Rattle.state.proofs.Told.{all-pass, passed-size, at-work, science-type, cells-science, slot-small, one-fits, two-fits}
-use Rattle.state.proofs.Closing.{end-clears}
+use Rattle.state.proofs.Closing.{Ends, end-clears}
 use Rattle.reader.specs.Buffers.{Buffers, buffers, sized, worked}
 use Rattle.reader.specs.Steps.{input, StepIs, FinishIs}
-use Rattle.reader.specs.Asked.{CellsReady, SamplesReady, CellsWorked, SamplesWorked}
+use Rattle.reader.specs.Asked.{Alike, ClosedBy, CellsReady, SamplesReady, CellsWorked, SamplesWorked}
 use Rattle.reader.specs.Asked.{BurstReady, SnapshotReady, SnapshotWorked, AllReady}
 use Rattle.reader.proofs.Lengths.{Sizes, sizes}
 
@@ -41,6 +43,14 @@ pub all-worked : (w : Works) (p : List ℕ) (b : Buffers) (oc fc : List ℕ) (os
     → SnapshotWorked (w .one) (w .two) p (b .openSnapshot) (b .firstSnapshot) (b .secondSnapshot) o f s
     → buffers oc fc os fs o f s ≡ worked w p b
 all-worked w p b oc fc os fs o f s x y z = rw (x .opened, x .finished, y .opened, y .finished, z .opened, z .first, z .second)
+
+and-false : (t : Bool) → (t && false) ≡ false
+and-false false = refl
+and-false true = refl
+
+-- a record lent on as the whole of itself
+pub of-whole : (s : State) (b : Buffers) (r : List ℕ) {x : Stepped} {b′ : Buffers} → StepIs s b (take (length r - 0) (drop 0 r)) x b′ → StepIs s b r x b′
+of-whole s b r {x} {b′} h = subst (λ (q : List ℕ). StepIs s b q x b′) (take-all (length r - 0) r (omega arith)) h
 
 frame-type : (r : List ℕ) → recordOf r .«frame_type» < 36 → frameType (frameCode (packetBytes r)) < types
 unfolding recordOf
@@ -164,41 +174,37 @@ module _ (s : State) (b : Buffers) where
         go true z q = sizes b (two (sized b) (listed s) z .0)
         go false z q = absurd (true≢false (sym q ∙ e))
 
-    no-lays : (f : Works → Bool) → f (endedOf s (sized b) .works) ≡ false → f (x .works) ≡ true → ⊥
-    no-lays f e h = true≢false (sym h ∙ ap (λ (y : Ended). f (y .works)) ended-so ∙ e)
+    -- what closes, copies into a buffer of its own size
+    pub samples-end : Alike (x .works .samples .work) (b .openSamples) (b .finishedSamples)
+    samples-end h = let z = sized-so (λ (y : Ended). y .works .samples .work .copies) refl h in omega (arith, z)
 
-    samples-end : SamplesReady (x .works .samples) [] (b .openSamples) (b .finishedSamples)
-    samples-end = record {
-      alike = λ h. let z = sized-so (λ (y : Ended). y .works .samples .work .copies) refl h in omega (arith, z);
-      fits = λ h. absurd (no-lays (λ (w : Works). w .samples .work .lays) (end-clears s (sized b) .samples-laid) h);
-    }
+    pub cells-end : Alike (x .works .cells) (b .openCells) (b .finishedCells)
+    cells-end h = let z = sized-so (λ (y : Ended). y .works .cells .copies) refl h in omega (arith, z)
 
-    cells-end : CellsReady (x .works .cells) [] (b .openCells) (b .finishedCells)
-    cells-end = record {
-      alike = λ h. let z = sized-so (λ (y : Ended). y .works .cells .copies) refl h in omega (arith, z);
-      fits = λ h. absurd (no-lays (λ (w : Works). w .cells .lays) (end-clears s (sized b) .cells-laid) h);
-    }
+    pub snapshot-end : Alike (x .works .one .work) (b .openSnapshot) (b .firstSnapshot)
+    snapshot-end h = let z = sized-so (λ (y : Ended). y .works .one .work .copies) refl h in omega (arith, z)
 
-    snapshot-end : SnapshotReady (x .works .one) (x .works .two) [] (b .openSnapshot) (b .firstSnapshot) (b .secondSnapshot)
-    snapshot-end =
-        let none = ap (λ (w : PacketWork). w .work .lays) (end-clears s (sized b) .two-none) in
-        record {
-          first = record {
-            alike = λ h. let z = sized-so (λ (y : Ended). y .works .one .work .copies) refl h in omega (arith, z);
-            fits = λ h. absurd (no-lays (λ (w : Works). w .one .work .lays) (end-clears s (sized b) .one-laid) h);
-          };
-          second = record {
-            alike = λ h. let z = sized-so (λ (y : Ended). y .works .two .work .copies) refl h in omega (arith, z);
-            fits = λ h. absurd (no-lays (λ (w : Works). w .two .work .lays) none h);
-          };
-          again = record {
-            alike = λ h. let z = sized-so (λ (y : Ended). y .works .two .work .copies) refl h in omega (arith, z);
-            fits = λ h. absurd (no-lays (λ (w : Works). w .two .work .lays) none h);
-          };
-        }
-
-    pub end-ready : AllReady (x .works) [] b
-    end-ready = record { samples = samples-end; cells = cells-end; snapshot = snapshot-end }
+    -- nothing is laid, and there is no second packet
+    pub all-closed : (oc fc : List ℕ) (os fs : List ℤ) (o f : List ℕ)
+        → ClosedBy (x .works .samples .work) (pos 0) (b .openSamples) (b .finishedSamples) os fs
+        → ClosedBy (x .works .cells) 0 (b .openCells) (b .finishedCells) oc fc
+        → ClosedBy (x .works .one .work) 0 (b .openSnapshot) (b .firstSnapshot) o f
+        → buffers oc fc os fs o f (b .secondSnapshot) ≡ worked (x .works) [] b
+    all-closed oc fc os fs o f p q k =
+        let w = subst⁻¹ (λ (y : Ended). Ends (y .works)) ended-so (end-clears s (sized b)) in
+        rw (
+          p .opened,
+          p .finished,
+          q .opened,
+          q .finished,
+          k .opened,
+          k .finished,
+          w .samples-laid,
+          w .cells-laid,
+          w .one-laid,
+          w .two-none,
+          and-false (x .works .one .work .copies),
+        )
 
     pub finish-is : (b′ : Buffers) → b′ ≡ worked (x .works) [] b → FinishIs s b (x .finished) b′
     finish-is b′ e = record {

@@ -4,8 +4,7 @@ ghost use mathlib.Core.Path.{_≡_};
 ghost use Rattle.record.specs.Parts.{burstBytes};
 ghost use Rattle.reader.specs.Buffers.{packetLaidBy};
 ghost use Rattle.reader.specs.Asked.{isBusy, BurstReady, PacketReady, PacketWorked, SnapshotReady, SnapshotWorked};
-use crate::moving::clear_where;
-use crate::moving::copy_where;
+use crate::moving::close;
 use buffers::Work;
 use snapshot::PacketWork;
 
@@ -19,7 +18,7 @@ fn lay_packet(lays: bool, at: usize, second: bool, packet: &[u8], bytes: &mut [u
     }
 }
 
-// Copied, cleared, laid into: in this order.
+// Closed, laid into: in this order.
 fn work_packet(
     work: PacketWork,
     second: bool,
@@ -32,8 +31,7 @@ fn work_packet(
         (now (opened .exit)) (now (finished .exit)) ⌝ }
 {
     let todo = work.work;
-    copy_where(todo.copies, opened, finished);
-    clear_where(todo.clears, opened);
+    close(todo, opened, finished);
     lay_packet(todo.lays, work.at, second, packet, opened);
 }
 

@@ -4,6 +4,8 @@ ghost use Rattle.reader.specs.Buffers.{sizedBy, buffers};
 ghost use Rattle.reader.specs.Steps.{StepIs, FinishIs};
 use crate::SAMPLES;
 use crate::cells_part::work_cells;
+use crate::moving::close;
+use crate::samples_part::close_samples;
 use crate::samples_part::work_samples;
 use crate::snapshot_part::work_snapshot;
 use bursts::SNAPSHOT;
@@ -59,10 +61,12 @@ pub fn step(
         first_snapshot.len(),
         second_snapshot.len(),
     );
-    let decided = state::decide(state, sized, r);
+    // lent on as a part, the record is handed to this function as two numbers, and not as the place of two that were just stored
+    let record = &r[0..];
+    let decided = state::decide(state, sized, record);
     let stepped = decided.stepped;
     let works = decided.works;
-    let packet = record::packet_in(r);
+    let packet = record::packet_in(record);
     work_samples(works.samples, packet, open_samples, finished_samples);
     work_cells(works.cells, packet, open_cells, finished_cells);
     work_snapshot(
@@ -76,7 +80,7 @@ pub fn step(
     stepped
 }
 
-// Closes what is open.
+// Closes what is open, and lays nothing.
 pub fn finish(
     state: State,
     open_cells: &mut [u8],
@@ -106,15 +110,8 @@ pub fn finish(
     let ended = state::end(state, sized);
     let finished = ended.finished;
     let works = ended.works;
-    work_samples(works.samples, b"", open_samples, finished_samples);
-    work_cells(works.cells, b"", open_cells, finished_cells);
-    work_snapshot(
-        works.one,
-        works.two,
-        b"",
-        open_snapshot,
-        first_snapshot,
-        second_snapshot,
-    );
+    close_samples(works.samples.work, open_samples, finished_samples);
+    close(works.cells, open_cells, finished_cells);
+    close(works.one.work, open_snapshot, first_snapshot);
     finished
 }

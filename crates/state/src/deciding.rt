@@ -14,8 +14,10 @@ use crate::closed::Works;
 use crate::closed::no_works;
 use crate::closed::nothing_closed;
 use crate::listed;
+use accumulation::Accumulation;
 use accumulation::Gap;
 use clock::Arrival;
+use clock::Clock;
 use mag::Unpacked;
 use record::Contents;
 use record::Record;
@@ -139,8 +141,8 @@ fn decide_by(state: State, f: Record, range: u8) -> Decided
     }
 }
 
-// `sized`: whether all lent buffers are of their size.
-pub fn decide(state: State, sized: bool, r: &[u8]) -> Decided
+// Rules 1 to 11, in their order.
+fn decide_on(state: State, sized: bool, r: &[u8]) -> Decided
     ensures { λ x. ⌜ DecidedIs state sized (now (r .entry)) x ⌝ }
 {
     if !sized {
@@ -154,4 +156,37 @@ pub fn decide(state: State, sized: bool, r: &[u8]) -> Decided
         Contents::Fields(f) => decide_by(state, f, range_in(r)),
         Contents::Refused(n) => refused(state, n),
     }
+}
+
+// The state from its fields. A struct is copied with its padding, seven bytes after `any` and seven after `last_type`: the compiler
+// moves such seven in two overlapping halves, and the processor waits at each copy of a copy. What is put together has no padding.
+fn from_fields(state: State) -> State
+    ensures { λ s. ⌜ s ≡ state ⌝ }
+{
+    let c = state.clock;
+    let a = state.accumulation;
+    let major = state.major;
+    let snapshot = state.snapshot;
+    State {
+        clock: Clock {
+            any: c.any,
+            last: c.last,
+        },
+        accumulation: Accumulation {
+            first: a.first,
+            held: a.held,
+            last_type: a.last_type,
+            last_count: a.last_count,
+            others: a.others,
+        },
+        major: major,
+        snapshot: snapshot,
+    }
+}
+
+// `sized`: whether all lent buffers are of their size.
+pub fn decide(state: State, sized: bool, r: &[u8]) -> Decided
+    ensures { λ x. ⌜ DecidedIs state sized (now (r .entry)) x ⌝ }
+{
+    decide_on(from_fields(state), sized, r)
 }

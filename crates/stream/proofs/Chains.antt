@@ -38,8 +38,18 @@ loosen : (xs : List Kept) (c k k′ l : ℕ) → k ≤ k′ → k′ ≤ k + 1 �
 unfolding Chain
 loosen [] c k k′ l p q h = tt
 loosen (x ∷ xs) c k k′ l p q h =
-    let n = h .0 in
-    (record { bytes = n .bytes; sized = n .sized; counted = omega arith; losing = omega arith; rising = omega arith; between = omega arith; typed = n .typed }, h .1)
+    let n = h .0 in (
+      record {
+        bytes = n .bytes;
+        sized = n .sized;
+        counted = omega arith;
+        losing = omega arith;
+        rising = omega arith;
+        between = omega arith;
+        typed = n .typed;
+      },
+      h .1,
+    )
 
 next-near : (k : ℕ) (r : List ℕ) → (k ≤ next k r) × (next k r ≤ k + 1)
 next-near k r = go (realTime r) refl
@@ -57,7 +67,15 @@ chain (removed r ∷ xs) c k l h =
     loosen (keptOf (c + 1) (next k r) (l + 1) xs) c k (next k r) l (n .0) (n .1) (chain xs (c + 1) (next k r) (l + 1) (h .1))
 chain (kept r ∷ xs) c k l h =
     let p = h .0 in (
-      record { bytes = p .bytes; sized = opened.sized r (p .passes); counted = omega arith; losing = omega arith; rising = omega arith; between = omega arith; typed = p .typed },
+      record {
+        bytes = p .bytes;
+        sized = opened.sized r (p .passes);
+        counted = omega arith;
+        losing = omega arith;
+        rising = omega arith;
+        between = omega arith;
+        typed = p .typed;
+      },
       chain xs (c + 1) (next k r) l (h .1),
     )
 

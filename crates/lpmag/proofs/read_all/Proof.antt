@@ -45,14 +45,16 @@ tell-requires c κs = search needs
 
 sub-turns : tie.Need-sub-turns Inv-loop μ-loop
 sub-turns c =
-    let f = c .before .before .before .before .before .before .before .before .before .before .before .before .before .before .before .before .before in
+    let back = c .before .before .before .before .before .before .before .before in
+    let f = back .before .before .before .before .before .before .before .before .before in
     let w = f .before .before .before .before .before .before .before .before .before in
     let t = w .before .before .before .before .before .before .before in
     omega (arith, t .loop-test .taken)
 
 loop-less : tie.Need-loop-less Inv-loop μ-loop
 loop-less c =
-    let f = c .before .before .before .before .before .before .before .before .before .before .before .before .before .before .before .before .before in
+    let back = c .before .before .before .before .before .before .before .before in
+    let f = back .before .before .before .before .before .before .before .before .before in
     let w = f .before .before .before .before .before .before .before .before .before in
     let t = w .before .before .before .before .before .before .before in
     omega (arith, t .loop-test .taken)
@@ -65,7 +67,8 @@ loop-again c =
     let os = fs .before .before in
     let fc = os .before .before .before .before in
     let oc = fc .before .before in
-    let w = oc .before .before .before .before .before .before .before .before .before .before in
+    let given = oc .before .before .before .before .before in
+    let w = given .before .before .before .before .before in
     let b = w .before .before .before in
     let i = b .before .before .before .before .before .loop .inv in (
       b .bytes .given ∙ i .0,

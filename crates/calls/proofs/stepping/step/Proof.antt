@@ -48,7 +48,8 @@ same-length-7 c = search needs
 
 returns-2 : tie.Need-returns-2
 returns-2 c =
-    let t = c .before .before .before .before .before .before .before .before .before .before .before .before .before in
+    let back = c .before .before .before .before .before .before in
+    let t = back .before .before .before .before .before .before .before in
     let i = t .before .before .before .before .before .before .before .before in
     let k = i .before .before in
     let a = k .before .before .before .before .before .before .before .args in

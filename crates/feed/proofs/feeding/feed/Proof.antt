@@ -36,8 +36,10 @@ feed-one-requires c κs = search needs
 
 loop-less : tie.Need-loop-less Inv-loop μ-loop
 loop-less c =
-    let o = c .before .before .before .before .before .before .before .before .before .before .before .before in
-    let w = o .before .before .before .before .before .before .before .before .before .before in
+    let back = c .before .before .before .before .before .before in
+    let o = back .before .before .before .before .before .before in
+    let given = o .before .before .before .before .before in
+    let w = given .before .before .before .before .before in
     let k = w .before .before in
     let l = k .loop in
     let a = k .before .before .before .before .before .before .before .before .args in
@@ -49,7 +51,8 @@ loop-less c =
 
 loop-again : tie.Need-loop-again Inv-loop μ-loop
 loop-again c =
-    let o = c .before .before .before .before .before .before .before .before .before .before .before .before in
+    let back = c .before .before .before .before .before .before in
+    let o = back .before .before .before .before .before .before in
     let q = o .before .before .before .before .before .before .before .before in
     let w = q .before .before in
     let k = w .before .before in

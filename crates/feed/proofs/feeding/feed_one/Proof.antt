@@ -47,7 +47,8 @@ same-length-7 c = search needs
 
 returns : tie.Need-returns
 returns c =
-    let s = c .before .before .before .before .before .before .before .before .before .before .before .before .before .before .before in
+    let back = c .before .before .before .before .before .before .before in
+    let s = back .before .before .before .before .before .before .before .before in
     let k = s .before .before .before .before .before .before .before .before in
     let a = k .before .before .before .before .before .before .before .args in
     one-is (now (a .bytes)) (a .at) (k .cut .ensures .content) (s .step .ensures) (c .rule-of .ensures)

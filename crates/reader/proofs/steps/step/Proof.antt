@@ -2,13 +2,22 @@
 -- Assumes nothing.
 use denote.Ref.{now}
 use Rattle.reader.specs.Buffers.{buffers}
-use Rattle.reader.proofs.Outcomes.{all-worked, step-ready, step-is}
+use Rattle.reader.proofs.Outcomes.{all-worked, of-whole, step-ready, step-is}
 use borrow.Author.Needs.{needs}
 use Rattle.reader.proofs.steps.step.Statement.{statement}
 use Rattle.reader.proofs.steps.step.Tie as tie
 
 right-sizes-requires : tie.Need-right-sizes-requires
 right-sizes-requires c κs = search needs
+
+sub-record : tie.Need-sub-record
+sub-record c = search needs
+
+part-record-start : tie.Need-part-record-start
+part-record-start c = search needs
+
+part-record-end : tie.Need-part-record-end
+part-record-end c = search needs
 
 decide-requires : tie.Need-decide-requires
 decide-requires c κs = search needs
@@ -20,24 +29,26 @@ work-samples-requires : tie.Need-work-samples-requires
 work-samples-requires c κs =
     let p = c .before .before in
     let d = p .before .before .before in
-    let a = d .before .before .before .before .before .before .before .before .args in
+    let z = d .before .before in
+    let a = z .before .before .before .before .before .before .before .args in
     let b =
     buffers (now (a .open-cells)) (now (a .finished-cells)) (now (a .open-samples)) (now (a .finished-samples))
     (now (a .open-snapshot)) (now (a .first-snapshot)) (now (a .second-snapshot))
     in
-    step-ready (a .state) b (now (a .r)) _ (d .before .right-sizes .ensures) _ (d .decide .ensures) _ (a .r .ptr) _ (p .packet-in .ensures) .samples
+    step-ready (a .state) b _ _ (z .right-sizes .ensures) _ (d .decide .ensures) _ _ _ (p .packet-in .ensures) .samples
 
 work-cells-requires : tie.Need-work-cells-requires
 work-cells-requires c κs =
     let v = c .before .before .before .before in
     let p = v .before .before .before in
     let d = p .before .before .before in
-    let a = d .before .before .before .before .before .before .before .before .args in
+    let z = d .before .before in
+    let a = z .before .before .before .before .before .before .before .args in
     let b =
     buffers (now (a .open-cells)) (now (a .finished-cells)) (now (a .open-samples)) (now (a .finished-samples))
     (now (a .open-snapshot)) (now (a .first-snapshot)) (now (a .second-snapshot))
     in
-    step-ready (a .state) b (now (a .r)) _ (d .before .right-sizes .ensures) _ (d .decide .ensures) _ (a .r .ptr) _ (p .packet-in .ensures) .cells
+    step-ready (a .state) b _ _ (z .right-sizes .ensures) _ (d .decide .ensures) _ _ _ (p .packet-in .ensures) .cells
 
 work-snapshot-requires : tie.Need-work-snapshot-requires
 work-snapshot-requires c κs =
@@ -45,12 +56,13 @@ work-snapshot-requires c κs =
     let v = w .before .before .before .before .before in
     let p = v .before .before .before in
     let d = p .before .before .before in
-    let a = d .before .before .before .before .before .before .before .before .args in
+    let z = d .before .before in
+    let a = z .before .before .before .before .before .before .before .args in
     let b =
     buffers (now (a .open-cells)) (now (a .finished-cells)) (now (a .open-samples)) (now (a .finished-samples))
     (now (a .open-snapshot)) (now (a .first-snapshot)) (now (a .second-snapshot))
     in
-    step-ready (a .state) b (now (a .r)) _ (d .before .right-sizes .ensures) _ (d .decide .ensures) _ (a .r .ptr) _ (p .packet-in .ensures) .snapshot
+    step-ready (a .state) b _ _ (z .right-sizes .ensures) _ (d .decide .ensures) _ _ _ (p .packet-in .ensures) .snapshot
 
 same-length : tie.Need-same-length
 same-length c = search needs
@@ -80,7 +92,8 @@ returns c =
     let v = w .before .before .before .before .before in
     let p = v .before .before .before in
     let d = p .before .before .before in
-    let a = d .before .before .before .before .before .before .before .before .args in
+    let z = d .before .before in
+    let a = z .before .before .before .before .before .before .before .args in
     let b =
     buffers (now (a .open-cells)) (now (a .finished-cells)) (now (a .open-samples)) (now (a .finished-samples))
     (now (a .open-snapshot)) (now (a .first-snapshot)) (now (a .second-snapshot))
@@ -89,13 +102,17 @@ returns c =
     all-worked (d .decide .result .works) (now (p .packet-in .result)) b
     _ _ _ _ _ _ _ (v .work-samples .ensures) (w .work-cells .ensures) (n .work-snapshot .ensures)
     in
-    step-is (a .state) b (now (a .r)) _ (d .before .right-sizes .ensures) _ (d .decide .ensures) _ (a .r .ptr) _ (p .packet-in .ensures) _ done
+    of-whole (a .state) b (now (a .r))
+    (step-is (a .state) b _ _ (z .right-sizes .ensures) _ (d .decide .ensures) _ _ _ (p .packet-in .ensures) _ done)
 
 pub step-spec : {M : Type 1} → statement M
 step-spec =
     tie.close
     (tie.spec
     right-sizes-requires
+    sub-record
+    part-record-start
+    part-record-end
     decide-requires
     packet-in-requires
     work-samples-requires
