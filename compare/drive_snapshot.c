@@ -85,60 +85,63 @@ static void compare_angle(struct drive *drive, const struct asked *asked, size_t
                   number < MAG_ANGLES ? MAG_ANGLES_AT + number : NO_PLACE);
 }
 
-static void compare_three_d(struct drive *drive, const struct asked *asked, size_t step, size_t angle)
+/* A table of counts, each by its row and its angle. */
+typedef uint8_t table_question(const uint8_t *, size_t, uint32_t, size_t, size_t, uint64_t *, uint64_t *);
+struct table {
+    enum function function;
+    const char *row;
+    size_t at, rows, angles;
+    table_question *first, *second;
+};
+
+static const struct table three_d = {SNAPSHOT_THREE_D,       "step",
+                                     THREE_D_AT,             STEPS,
+                                     STEP_ANGLES,            lpmag_snapshot_three_d,
+                                     second_snapshot_three_d};
+static const struct table pitch = {SNAPSHOT_PITCH, "energy",     PITCH_AT,
+                                   ENERGIES,       PITCH_ANGLES, lpmag_snapshot_pitch,
+                                   second_snapshot_pitch};
+
+static void compare_in(struct drive *drive, const struct asked *asked, const struct table *table, size_t row,
+                       size_t angle)
 {
-    struct question question = {SNAPSHOT_THREE_D,
+    struct question question = {table->function,
                                 asked->snapshot,
                                 asked->length,
-                                {{"held", asked->held}, {"step", step}, {"angle", angle}}};
+                                {{"held", asked->held}, {table->row, row}, {"angle", angle}}};
     struct ranges ranges;
     ranges_make(&ranges, &drive->random);
-    uint8_t first = lpmag_snapshot_three_d(asked->snapshot, asked->length, asked->held, step, angle,
-                                           &ranges.first[LOW], &ranges.first[HIGH]);
-    uint8_t second = second_snapshot_three_d(asked->snapshot, asked->length, asked->held, step, angle,
-                                             &ranges.second[LOW], &ranges.second[HIGH]);
-    size_t place = step < STEPS && angle < STEP_ANGLES ? THREE_D_AT + 88 * step + angle : NO_PLACE;
+    uint8_t first = table->first(asked->snapshot, asked->length, asked->held, row, angle, &ranges.first[LOW],
+                                 &ranges.first[HIGH]);
+    uint8_t second = table->second(asked->snapshot, asked->length, asked->held, row, angle,
+                                   &ranges.second[LOW], &ranges.second[HIGH]);
+    size_t place =
+        row < table->rows && angle < table->angles ? table->at + table->angles * row + angle : NO_PLACE;
     compare_counts(drive, &question, &ranges, first, second,
                    expected_counts_at(asked->snapshot, asked->length, asked->held, place, 1));
 }
 
-static void compare_pitch(struct drive *drive, const struct asked *asked, size_t energy, size_t angle)
+/* A number of the header. */
+typedef uint8_t header_question(const uint8_t *, size_t, uint32_t, uint64_t *, uint64_t *);
+
+static void compare_header(struct drive *drive, const struct asked *asked, enum function function, size_t at,
+                           header_question *ask_first, header_question *ask_second)
 {
-    struct question question = {SNAPSHOT_PITCH,
-                                asked->snapshot,
-                                asked->length,
-                                {{"held", asked->held}, {"energy", energy}, {"angle", angle}}};
+    struct question question = {function, asked->snapshot, asked->length, {{"held", asked->held}}};
     struct ranges ranges;
     ranges_make(&ranges, &drive->random);
-    uint8_t first = lpmag_snapshot_pitch(asked->snapshot, asked->length, asked->held, energy, angle,
-                                         &ranges.first[LOW], &ranges.first[HIGH]);
-    uint8_t second = second_snapshot_pitch(asked->snapshot, asked->length, asked->held, energy, angle,
-                                           &ranges.second[LOW], &ranges.second[HIGH]);
-    size_t place = energy < ENERGIES && angle < PITCH_ANGLES ? PITCH_AT + 16 * energy + angle : NO_PLACE;
+    uint8_t first =
+        ask_first(asked->snapshot, asked->length, asked->held, &ranges.first[LOW], &ranges.first[HIGH]);
+    uint8_t second =
+        ask_second(asked->snapshot, asked->length, asked->held, &ranges.second[LOW], &ranges.second[HIGH]);
     compare_counts(drive, &question, &ranges, first, second,
-                   expected_counts_at(asked->snapshot, asked->length, asked->held, place, 1));
+                   expected_counts_at(asked->snapshot, asked->length, asked->held, at, 16));
 }
 
 static void compare_total_and_rate(struct drive *drive, const struct asked *asked)
 {
-    struct question question = {SNAPSHOT_TOTAL, asked->snapshot, asked->length, {{"held", asked->held}}};
-    struct ranges ranges;
-    ranges_make(&ranges, &drive->random);
-    uint8_t first = lpmag_snapshot_total(asked->snapshot, asked->length, asked->held, &ranges.first[LOW],
-                                         &ranges.first[HIGH]);
-    uint8_t second = second_snapshot_total(asked->snapshot, asked->length, asked->held, &ranges.second[LOW],
-                                           &ranges.second[HIGH]);
-    compare_counts(drive, &question, &ranges, first, second,
-                   expected_counts_at(asked->snapshot, asked->length, asked->held, TOTAL_AT, 16));
-
-    question.function = SNAPSHOT_RATE;
-    ranges_make(&ranges, &drive->random);
-    first = lpmag_snapshot_rate(asked->snapshot, asked->length, asked->held, &ranges.first[LOW],
-                                &ranges.first[HIGH]);
-    second = second_snapshot_rate(asked->snapshot, asked->length, asked->held, &ranges.second[LOW],
-                                  &ranges.second[HIGH]);
-    compare_counts(drive, &question, &ranges, first, second,
-                   expected_counts_at(asked->snapshot, asked->length, asked->held, RATE_AT, 16));
+    compare_header(drive, asked, SNAPSHOT_TOTAL, TOTAL_AT, lpmag_snapshot_total, second_snapshot_total);
+    compare_header(drive, asked, SNAPSHOT_RATE, RATE_AT, lpmag_snapshot_rate, second_snapshot_rate);
 }
 
 /* ---- what is asked with ----------------------------------------------- */
@@ -216,10 +219,10 @@ static void compare_counts_of(struct drive *drive)
         struct asked asked = lend_asked(drive, made, marks[i]);
         for (size_t j = 0; j < step_count; j++)
             for (size_t k = 0; k < angle_count; k++)
-                compare_three_d(drive, &asked, steps[j], angles[k]);
+                compare_in(drive, &asked, &three_d, steps[j], angles[k]);
         for (size_t j = 0; j < energy_count; j++)
             for (size_t k = 0; k < pitch_count; k++)
-                compare_pitch(drive, &asked, energies[j], pitches[k]);
+                compare_in(drive, &asked, &pitch, energies[j], pitches[k]);
         expect_unchanged(drive, SNAPSHOT_PITCH, &asked, made);
     }
 }
@@ -236,10 +239,10 @@ static void compare_every_code(struct drive *drive)
         struct asked asked = lend_asked(drive, made, ALL_PACKETS);
         for (size_t step = 0; step < STEPS; step++)
             for (size_t angle = 0; angle < STEP_ANGLES; angle++)
-                compare_three_d(drive, &asked, step, angle);
+                compare_in(drive, &asked, &three_d, step, angle);
         for (size_t energy = 0; energy < ENERGIES; energy++)
             for (size_t angle = 0; angle < PITCH_ANGLES; angle++)
-                compare_pitch(drive, &asked, energy, angle);
+                compare_in(drive, &asked, &pitch, energy, angle);
         expect_unchanged(drive, SNAPSHOT_PITCH, &asked, made);
     }
 }
@@ -294,8 +297,8 @@ static void compare_sizes(struct drive *drive)
             compare_total_and_rate(drive, &asked);
             for (size_t k = 0; k <= STEPS; k++) {
                 compare_byte(drive, &asked, random_below(&drive->random, LPMAG_SNAPSHOT + 8));
-                compare_three_d(drive, &asked, k, random_below(&drive->random, STEP_ANGLES + 1));
-                compare_pitch(drive, &asked, k, random_below(&drive->random, PITCH_ANGLES + 1));
+                compare_in(drive, &asked, &three_d, k, random_below(&drive->random, STEP_ANGLES + 1));
+                compare_in(drive, &asked, &pitch, k, random_below(&drive->random, PITCH_ANGLES + 1));
                 compare_angle(drive, &asked, k % 5);
             }
             expect_unchanged(drive, SNAPSHOT_ANGLE, &asked, made);

@@ -48,14 +48,16 @@ static uint64_t room(struct random *random)
     return up_to(random, most[random_below(random, 8)]);
 }
 
-static uint64_t any_held(struct random *random)
+/* Some of so many marks: one alone, the lowest ones, or any. */
+static uint64_t any_held(struct random *random, uint32_t marks)
 {
-    uint64_t held = random_next(random) & ALL_HELD;
+    const uint64_t all = ((uint64_t)1 << marks) - 1;
+    uint64_t held = random_next(random) & all;
     switch (random_below(random, 4)) {
     case 0:
-        return (uint64_t)1 << random_below(random, TYPES);
+        return (uint64_t)1 << random_below(random, marks);
     case 1:
-        return ALL_HELD >> random_below(random, TYPES);
+        return all >> random_below(random, marks);
     default:
         return held != 0 ? held : 1;
     }
@@ -66,7 +68,7 @@ static uint64_t any_held(struct random *random)
 static void open_accumulation(struct random *random, struct lpmag_state *state)
 {
     struct lpmag_accumulation *open = &state->accumulation;
-    open->held = any_held(random);
+    open->held = any_held(random, TYPES);
     open->last_type = (uint8_t)highest(open->held);
     open->others = room(random);
     uint64_t frames = ones(open->held) - 1 + room(random);
@@ -90,26 +92,12 @@ static void open_major(struct random *random, struct lpmag_state *state)
     }
 }
 
-static uint32_t any_packets(struct random *random)
-{
-    const uint32_t all = ((uint32_t)1 << PACKETS) - 1;
-    uint32_t held = (uint32_t)random_next(random) & all;
-    switch (random_below(random, 4)) {
-    case 0:
-        return (uint32_t)1 << random_below(random, PACKETS);
-    case 1:
-        return all >> random_below(random, PACKETS);
-    default:
-        return held != 0 ? held : 1;
-    }
-}
-
 /* Its first count is at most the last accepted, often that one or shortly before. */
 static void open_snapshot(struct random *random, struct lpmag_state *state)
 {
     struct lpmag_snapshot *open = &state->snapshot;
     uint64_t before = room(random);
-    open->held = any_packets(random);
+    open->held = (uint32_t)any_held(random, PACKETS);
     open->last_type = (uint8_t)(FIRST_PACKET + highest(open->held));
     open->first = before <= state->last ? state->last - before : any_count(random, state->last);
     open->cut = coin(random);
@@ -424,7 +412,7 @@ static void break_nothing(struct random *random, struct lpmag_state *state, uint
         break;
     case 7: /* a snapshot alone, from count 0 */
     case 8:
-        state->snapshot.held = any_packets(random);
+        state->snapshot.held = (uint32_t)any_held(random, PACKETS);
         state->snapshot.last_type = (uint8_t)(FIRST_PACKET + highest(state->snapshot.held));
         state->snapshot.cut = form == 8;
         break;

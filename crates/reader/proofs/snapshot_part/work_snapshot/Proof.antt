@@ -13,7 +13,9 @@ is-busy-requires-2 : tie.Need-is-busy-requires-2
 is-busy-requires-2 c κs = search needs
 
 work-packets-requires : tie.Need-work-packets-requires
-work-packets-requires c κs = let t = c .before .before .before .before .before in t .before .before .before .before .before .pre
+work-packets-requires c κs =
+    let one = c .before .before .before .before .before in
+    one .before .before .before .before .before .pre
 
 same-length : tie.Need-same-length
 same-length c = search needs
