@@ -17,17 +17,17 @@ use Rattle.reader.specs.Buffers.{Buffers}
 use Rattle.reader.specs.Steps.{input, StepIs, FinishIs}
 use Rattle.feed.specs.Feeding.{FeedIs}
 use Rattle.feed.specs.declared.feeding.Fed.{Fed}
-use Rattle.shapes.specs.States.{isState, stateIn, stateOut}
-use Rattle.shapes.specs.Closed.{fedOut}
+use Rattle.shapes.specs.States.{isState, stateIn}
 use Rattle.shapes.specs.declared.states.CState.{CState}
 use Rattle.shapes.specs.declared.closed.CClosed.{CClosed}
 use Rattle.shapes.specs.declared.closed.CReport.{CReport}
 use Rattle.shapes.specs.declared.closed.CFed.{CFed}
 use Rattle.calls.specs.Reading.{back, backClosed, handedBy, handed, handedEnd, handedClosed, StepGiven, FinishGiven}
 use Rattle.calls.specs.Handing.{notZero, numbered, handedAs}
-use Rattle.calls.specs.Feeding.{ready, backFed, FeedGiven}
+use Rattle.calls.specs.Feeding.{ready, backFed, handedFed, FeedGiven}
 use Rattle.calls.specs.declared.stepping.CStepped.{CStepped}
 use Rattle.calls.specs.declared.stepping.CFinished.{CFinished}
+use Rattle.calls.specs.declared.feeding.CFeeding.{CFeeding}
 
 -- a test that has its answer
 chosen {ℓ} : {A : Type ℓ} (t b : Bool) (x y : A) → t ≡ b → cond b x y ≡ cond t x y
@@ -99,10 +99,8 @@ module _ (s : CState) (b : Buffers) where
     feed-unread e = record { result = chosen (ready s b) false _ _ e; left = chosen (ready s b) false _ _ e }
 
     pub feed-given : ready s b ≡ true → (x : Fed) (b′ : Buffers) → FeedIs (stateIn s) b bytes 0 x b′
-        → (t : CState) (g : CFed) → t ≡ stateOut (x .state) → g ≡ fedOut x → FeedGiven s f b bytes (backFed 0 t g) b′
-    feed-given e x b′ is t g ht hg = record {
-      result =
-          (λ i. backFed 0 (ht i) (hg i)) ∙ ap (λ (z : Fed). backFed 0 (stateOut (z .state)) (fedOut z)) (is .result)
-          ∙ chosen (ready s b) true _ _ e;
+        → (y : CFeeding) → y ≡ handedFed x → FeedGiven s f b bytes y b′
+    feed-given e x b′ is y h = record {
+      result = h ∙ ap handedFed (is .result) ∙ chosen (ready s b) true _ _ e;
       left = is .left ∙ chosen (ready s b) true _ _ e;
     }

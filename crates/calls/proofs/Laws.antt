@@ -93,7 +93,7 @@ module _ (s : CState) (b b′ : Buffers) where
     pub feed-kept : (y ≡ backFed (y .answer) s f) × (b′ ≡ b)
     feed-kept = go (ready s b) (is .result) (is .left)
       where
-        go : (t : Bool) → y ≡ cond t (handedFed (fedFrom s b bytes)) (backFed 1 s f) → b′ ≡ cond t (fedFrom s b bytes .lent) b
+        go : (t : Bool) → y ≡ cond t (handedFed (fedFrom s b bytes .fed)) (backFed 1 s f) → b′ ≡ cond t (fedFrom s b bytes .lent) b
             → (y ≡ backFed (y .answer) s f) × (b′ ≡ b)
         go true e l = absurd (z (ap (λ (x : CFeeding). x .answer) e))
         go false e l = (e ∙ sym (ap (λ (x : CFeeding). backFed (x .answer) s f) e), l)

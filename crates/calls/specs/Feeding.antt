@@ -7,6 +7,7 @@ use mathlib.Core.Path.{_≡_}
 use Rattle.state.specs.List.{listed}
 use Rattle.reader.specs.Buffers.{Buffers, sized}
 use Rattle.feed.specs.Feeding.{Desk, begun, desk, feedAll}
+use Rattle.feed.specs.declared.feeding.Fed.{Fed}
 use Rattle.shapes.specs.States.{isState, stateIn, stateOut}
 use Rattle.shapes.specs.Closed.{fedOut}
 use Rattle.shapes.specs.declared.states.CState.{CState}
@@ -28,10 +29,11 @@ fedFrom s b bytes = feedAll bytes (desk (begun (stateIn s) 0) b)
 abbrev pub backFed : ℕ → CState → CFed → CFeeding
 backFed n s f = record { answer = n; state = s; fed = f }
 
-abbrev pub handedFed : Desk → CFeeding
-handedFed d = backFed 0 (stateOut (d .fed .state)) (fedOut (d .fed))
+-- fed from place 0 on: where the next record begins is how many bytes were taken
+abbrev pub handedFed : Fed → CFeeding
+handedFed f = backFed 0 (stateOut (f .state)) (fedOut (f .at) (f .rule) (f .closed))
 
 -- 1, and all as found, where rule 1 fails, whatever there is to take; else what is fed from place 0 on
 pub record FeedGiven (s : CState) (f : CFed) (b : Buffers) (bytes : List ℕ) (y : CFeeding) (b′ : Buffers) : Type 0 where
-  pub result : y ≡ cond (ready s b) (handedFed (fedFrom s b bytes)) (backFed 1 s f)
+  pub result : y ≡ cond (ready s b) (handedFed (fedFrom s b bytes .fed)) (backFed 1 s f)
   pub left : b′ ≡ cond (ready s b) (fedFrom s b bytes .lent) b

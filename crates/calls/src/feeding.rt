@@ -1,7 +1,8 @@
 // Many records a call.
 ghost use mathlib.Core.Path.{_≡_};
 ghost use Rattle.reader.specs.Buffers.{buffers};
-ghost use Rattle.calls.specs.Feeding.{readyBy, FeedGiven};
+ghost use Rattle.calls.specs.Feeding.{readyBy, handedFed, FeedGiven};
+use feed::Fed;
 use shapes::CFed;
 use shapes::CState;
 use shapes::fed_out;
@@ -28,6 +29,16 @@ fn is_ready(state: CState, sized: bool) -> bool
         return false;
     }
     listed(state_in(state))
+}
+
+fn hand_over_fed(x: Fed) -> CFeeding
+    ensures { λ y. ⌜ y ≡ handedFed x ⌝ }
+{
+    CFeeding {
+        answer: 0,
+        state: state_out(x.state),
+        fed: fed_out(x.at, x.rule, x.closed),
+    }
 }
 
 pub fn feed(
@@ -77,9 +88,5 @@ pub fn feed(
         bytes,
         0,
     );
-    CFeeding {
-        answer: 0,
-        state: state_out(x.state),
-        fed: fed_out(x),
-    }
+    hand_over_fed(x)
 }

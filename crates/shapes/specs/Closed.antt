@@ -6,7 +6,6 @@ use Rattle.accumulation.specs.declared.Gap.the-variants.{Opens, Joins, Neither}
 use Rattle.snapshot.specs.declared.SnapshotReport.{SnapshotReport}
 use Rattle.state.specs.declared.closed.Closed.{Closed}
 use Rattle.state.specs.declared.deciding.Taken.{Taken}
-use Rattle.feed.specs.declared.feeding.Fed.{Fed}
 use Rattle.shapes.specs.Frames.{flag, majorOut}
 use Rattle.shapes.specs.Fields.{fieldsOut}
 use Rattle.shapes.specs.declared.closed.CClosedSnapshot.{CClosedSnapshot}
@@ -40,6 +39,5 @@ closedOut c = record {
 abbrev pub reportOut : Taken → Closed → CReport
 reportOut t c = record { fields = fieldsOut (t .fields); gap = gapNumber (t .gap); spare8 = 0; spare16 = 0; spare32 = 0; closed = closedOut c }
 
--- fed from place 0 on: where the next record begins is how many bytes were taken
-abbrev pub fedOut : Fed → CFed
-fedOut f = record { taken = f .at; answer = f .rule; spare8 = 0; spare16 = 0; spare32 = 0; closed = closedOut (f .closed) }
+abbrev pub fedOut : ℕ → ℕ → Closed → CFed
+fedOut taken answer c = record { taken = taken; answer = answer; spare8 = 0; spare16 = 0; spare32 = 0; closed = closedOut c }

@@ -7,7 +7,6 @@ use crate::frames::CMajor;
 use crate::frames::major_out;
 use crate::states::flag_of;
 use accumulation::Gap;
-use feed::Fed;
 use snapshot::SnapshotReport;
 use state::Closed;
 use state::Taken;
@@ -110,16 +109,15 @@ pub fn report_out(taken: Taken, closed: Closed) -> CReport
     }
 }
 
-pub fn fed_out(fed: Fed) -> CFed
-    ensures { λ c. ⌜ c ≡ fedOut fed ⌝ }
+pub fn fed_out(taken: usize, answer: u8, closed: Closed) -> CFed
+    ensures { λ c. ⌜ c ≡ fedOut taken answer closed ⌝ }
 {
-    let closed = closed_out(fed.closed);
     CFed {
-        taken: fed.at as u64,
-        answer: fed.rule,
+        taken: taken as u64,
+        answer: answer,
         spare8: 0,
         spare16: 0,
         spare32: 0,
-        closed: closed,
+        closed: closed_out(closed),
     }
 }

@@ -25,11 +25,8 @@ state-in-requires c κs = search needs
 feed-requires : tie.Need-feed-requires
 feed-requires c κs = search needs
 
-state-out-requires : tie.Need-state-out-requires
-state-out-requires c κs = search needs
-
-fed-out-requires : tie.Need-fed-out-requires
-fed-out-requires c κs = search needs
+hand-over-fed-requires : tie.Need-hand-over-fed-requires
+hand-over-fed-requires c κs = search needs
 
 same-length : tie.Need-same-length
 same-length c = search needs
@@ -54,16 +51,16 @@ same-length-7 c = search needs
 
 returns-2 : tie.Need-returns-2
 returns-2 c =
-    let back = c .before .before .before .before .before .before .before in
+    let back = c .before .before .before .before .before .before in
     let t = back .before .before .before .before .before .before .before in
     let i = t .before .before .before .before .before .before .before .before in
     let k = i .before .before in
     let a = k .before .before .before .before .before .before .before .before .args in
     feed-given (a .state) _ (a .fed) (now (a .bytes))
     (held (rw (k .before .right-sizes .ensures) at (k .is-ready .ensures)) (i .before .if1 .left))
-    _ _ (rw (i .state-in .ensures) at (t .feed .ensures)) _ _ (c .before .state-out .ensures) (c .fed-out .ensures)
+    _ _ (rw (i .state-in .ensures) at (t .feed .ensures)) _ (c .hand-over-fed .ensures)
 
 pub feed-spec : {M : Type 1} → statement M
 feed-spec =
-    tie.close (tie.spec right-sizes-requires is-ready-requires returns state-in-requires feed-requires state-out-requires
-    fed-out-requires same-length same-length-2 same-length-3 same-length-4 same-length-5 same-length-6 same-length-7 returns-2)
+    tie.close (tie.spec right-sizes-requires is-ready-requires returns state-in-requires feed-requires
+    hand-over-fed-requires same-length same-length-2 same-length-3 same-length-4 same-length-5 same-length-6 same-length-7 returns-2)

@@ -9,8 +9,8 @@ closed-out-requires c κs = search needs
 
 returns : tie.Need-returns
 returns c =
-    let f = c .before .args .fed in
-    λ i. record { taken = f .at; answer = f .rule; spare8 = 0; spare16 = 0; spare32 = 0; closed = c .closed-out .ensures i }
+    let a = c .before .args in
+    λ i. record { taken = a .taken; answer = a .answer; spare8 = 0; spare16 = 0; spare32 = 0; closed = c .closed-out .ensures i }
 
 pub fed-out-spec : {M : Type 1} → statement M
 fed-out-spec = tie.close (tie.spec closed-out-requires returns)
