@@ -67,36 +67,6 @@ fn read_all(
     }
 }
 
-// What the rest below a record has to tell.
-fn end_input(
-    read: Read,
-    bytes: &[u8],
-    page: &mut [u8],
-    open_cells: &mut [u8],
-    finished_cells: &mut [u8],
-    open_samples: &mut [i16],
-    finished_samples: &mut [i16],
-    open_snapshot: &mut [u8],
-    first_snapshot: &mut [u8],
-    second_snapshot: &mut [u8],
-) -> Run {
-    let run = read.run;
-    let have = within(run.have, bytes);
-    let rest = feed::feed_one(
-        read.state,
-        open_cells,
-        finished_cells,
-        open_samples,
-        finished_samples,
-        open_snapshot,
-        first_snapshot,
-        second_snapshot,
-        &bytes[..have],
-        run.at,
-    );
-    run::tell_rest(run, rest, page)
-}
-
 // What finish closes, and the last line. Answers whether all could be read and written.
 fn end_listing(
     run: Run,
@@ -148,19 +118,7 @@ fn list(options: Options) -> bool {
         &mut first_snapshot,
         &mut second_snapshot,
     );
-    let run = end_input(
-        read,
-        &bytes,
-        &mut page,
-        &mut open_cells,
-        &mut finished_cells,
-        &mut open_samples,
-        &mut finished_samples,
-        &mut open_snapshot,
-        &mut first_snapshot,
-        &mut second_snapshot,
-    );
-    // from the state before the rest: that is refused, unless output failed, and then nothing more is printed
+    let run = run::tell_rest(read.run, &bytes);
     end_listing(
         run,
         read.state,

@@ -6,6 +6,7 @@ use crate::output;
 use crate::said;
 use crate::said::within;
 use feed::Fed;
+use record::Verdict;
 use state::Finished;
 
 // What goes on from record to record.
@@ -58,6 +59,16 @@ fn make_room(run: Run, page: &[u8]) -> Run {
     write_page(run, page)
 }
 
+// The record that begins at place `from` of the bytes at hand was refused.
+fn tell_refusal(run: Run, from: usize, rule: u8) -> Run {
+    let mut run = run;
+    run.refused = std::num::wrapping_add_u64(run.refused, 1);
+    if run.verbose {
+        said::refusal(std::num::wrapping_add_u64(run.begins, from as u64), rule);
+    }
+    run
+}
+
 // What the last record taken has to tell.
 pub(crate) fn tell(run: Run, fed: Fed, page: &mut [u8]) -> Run {
     let mut run = make_room(run, page);
@@ -69,14 +80,7 @@ pub(crate) fn tell(run: Run, fed: Fed, page: &mut [u8]) -> Run {
     if fed.rule == 0 {
         return run;
     }
-    run.refused = std::num::wrapping_add_u64(run.refused, 1);
-    if run.verbose {
-        said::refusal(
-            std::num::wrapping_add_u64(run.begins, fed.from as u64),
-            fed.rule,
-        );
-    }
-    run
+    tell_refusal(run, fed.from, fed.rule)
 }
 
 // The rest below a record comes to the front.
@@ -103,12 +107,19 @@ pub(crate) fn refill(run: Run, bytes: &mut [u8]) -> Run {
     run
 }
 
-// "A short tail of the input is one record refused with 2." No byte is no record.
-pub(crate) fn tell_rest(run: Run, fed: Fed, page: &mut [u8]) -> Run {
-    if run.have == run.at {
+// "A short tail of the input is one record refused with 2." No byte is no record. Rule 1 comes before, and holds: state and buffers
+// are the program's own. More than a rest is left only where output failed, and then nothing more is told.
+pub(crate) fn tell_rest(run: Run, bytes: &[u8]) -> Run {
+    let have = within(run.have, bytes);
+    let rest = feed::cut(&bytes[..have], run.at);
+    if rest.len() == 0 || !run.all_written {
         return run;
     }
-    tell(run, fed, page)
+    let verdict = record::check(rest);
+    match verdict {
+        Verdict::Refused(n) => tell_refusal(run, run.at, n),
+        Verdict::Passes => run,
+    }
 }
 
 // What finish closes, and the last line. Answers whether all could be read and written.
