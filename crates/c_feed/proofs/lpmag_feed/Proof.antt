@@ -1,4 +1,4 @@
--- `c_reader::lpmag_feed` meets its contract: it hands on to `calls::feed`, by the walk of its shape.
+-- `c_feed::lpmag_feed` meets its contract: it hands on to `calls::feed`, by the walk of its shape.
 -- Assumes nothing.
 use contract.Running.{givenOf, tables, tablesOf}
 use denote.Triple.Spec.{tripleOf}
@@ -11,10 +11,10 @@ use Rattle.calls.proofs.Laws.{feed-kept}
 use Rattle.calls.proofs.feed.Symbol as callee
 use Rattle.calls.proofs.feed.Symbol.{name as #callee}
 use Rattle.calls.proofs.feed.Met as callee-thm
-use Rattle.c_reader.proofs.lpmag_feed.Key.{name as #own}
-use Rattle.c_reader.proofs.lpmag_feed as own
-use Rattle.c_reader.proofs.lpmag_feed.Statement as stated
-use Rattle.c_reader.proofs.lpmag_feed.Code as code
+use Rattle.c_feed.proofs.lpmag_feed.Key.{name as #own}
+use Rattle.c_feed.proofs.lpmag_feed as own
+use Rattle.c_feed.proofs.lpmag_feed.Statement as stated
+use Rattle.c_feed.proofs.lpmag_feed.Code as code
 
 abbrev says : Says state fed feeding
 says s f oc fc os fs so sf ss bytes y oc′ fc′ os′ fs′ so′ sf′ ss′ = FeedGiven s f (buffers oc fc os fs so sf ss) bytes y (buffers oc′ fc′ os′ fs′ so′ sf′ ss′)
