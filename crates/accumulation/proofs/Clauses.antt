@@ -7,7 +7,7 @@ use native.Mathlib.Omega.{arith}
 use lib.Count.{ones}
 use lib.Dec.{ltb, leb}
 use borrow.Author.Tests.{ne-eqb, le-leb, lt-leb, lt-ltb, le-ltb, ltb-true, ltb-false, leb-true, leb-false}
-use Rattle.tables.proofs.Marks.{none-above}
+use Rattle.prelude.proofs.Marks.{none-above}
 use Rattle.clock.specs.declared.Clock.{Clock}
 use Rattle.accumulation.specs.List.{framesAmong, framesFit, othersFit}
 use Rattle.accumulation.specs.Place.{inPlace}

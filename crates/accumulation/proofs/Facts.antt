@@ -8,9 +8,9 @@ use lib.Count.{ones}
 use lib.Dec.{eqb, ltb, leb}
 use lib.Pow.{pow-mono}
 use borrow.Author.Tests.{eqb-true, eqb-false, ltb-true, leb-true, eq-eqb, ne-eqb, lt-ltb}
-use Rattle.tables.proofs.Conds.{two, second}
-use Rattle.tables.specs.Marks.{bitSet, highest}
-use Rattle.tables.proofs.Marks.{highest-high, highest-set, set-below}
+use Rattle.prelude.proofs.Conds.{two, second}
+use Rattle.prelude.specs.Marks.{bitSet, highest}
+use Rattle.prelude.proofs.Marks.{highest-high, highest-set, set-below}
 use Rattle.clock.specs.Clock.{counts, begun}
 use Rattle.clock.specs.declared.Clock.{Clock}
 use Rattle.clock.proofs.Laws.{has-begun}

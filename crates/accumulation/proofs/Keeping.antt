@@ -9,8 +9,8 @@ use lib.Count.{ones, onesIn}
 use lib.Dec.{eqb, leb}
 use lib.Pow.{pow-mono, pow-pos}
 use borrow.Author.Tests.{eqb-true, eqb-false, ne-eqb, lt-ltb, le-leb}
-use Rattle.tables.specs.Marks.{highest, marked}
-use Rattle.tables.proofs.Marks.{highest-marked, marked-below, ones-marked}
+use Rattle.prelude.specs.Marks.{highest, marked}
+use Rattle.prelude.proofs.Marks.{highest-marked, marked-below, ones-marked}
 use Rattle.clock.specs.Clock.{counts, accepted}
 use Rattle.clock.specs.declared.Clock.{Clock}
 use Rattle.clock.proofs.Laws.{not-begun}

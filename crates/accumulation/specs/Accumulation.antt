@@ -4,7 +4,7 @@
 use Prim.Native.Nat.{ℕ, _+_, _-_, _^_}
 use mathlib.Core.Bool.{Bool, true, false, cond, not, _&&_}
 use lib.Dec.{eqb, ltb, leb}
-use Rattle.tables.specs.Marks.{marked}
+use Rattle.prelude.specs.Marks.{marked}
 use Rattle.buffers.specs.Working.{noWork}
 use Rattle.accumulation.specs.declared.Accumulation.{Accumulation}
 use Rattle.accumulation.specs.declared.AccumulationReport.{AccumulationReport}

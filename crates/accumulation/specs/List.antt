@@ -4,7 +4,7 @@ use Prim.Native.Nat.{_+_, _-_, _^_}
 use mathlib.Core.Bool.{Bool, not, _&&_, _||_}
 use lib.Count.{ones}
 use lib.Dec.{eqb, ltb, leb}
-use Rattle.tables.specs.Marks.{highest}
+use Rattle.prelude.specs.Marks.{highest}
 use Rattle.clock.specs.Clock.{counts, begun}
 use Rattle.clock.specs.declared.Clock.{Clock}
 use Rattle.accumulation.specs.declared.Accumulation.{Accumulation}

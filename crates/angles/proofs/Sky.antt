@@ -9,8 +9,8 @@ use native.Mathlib.Omega.{arith}
 use lib.Dec.{T, eqb, ltb, leb, eqb→eq, ltb→lt, leb→le}
 use lib.ListN.{getD}
 use borrow.Author.Tests.{lt-ltb, le-ltb}
-use Rattle.tables.specs.Upto.{both, upto}
-use Rattle.tables.proofs.Upto.{both-left, both-right, upto-at}
+use Rattle.prelude.specs.Upto.{both, upto}
+use Rattle.prelude.proofs.Upto.{both-left, both-right, upto-at}
 use Rattle.angles.specs.Angles.{lines, lineOf, angleAt, hasBin, angleGiven, AngleIs}
 use Rattle.angles.specs.declared.Anode.{Anode}
 use Rattle.angles.specs.declared.Angle.the-variants.{At, NoSuchBin}

@@ -11,7 +11,7 @@ use lib.ListN.{length, getD, take, drop, length-take, List·getD-eq-default}
 use lib.Pow as pow
 use lib.Seq.{ext-getD, getD-take, getD-drop}
 use borrow.Author.Tests.{ltb-true, ltb-false}
-use Rattle.tables.proofs.Built.{length-build, getD-build}
+use Rattle.prelude.proofs.Built.{length-build, getD-build}
 use Rattle.bits.specs.Numbers.{Order, least, most, bit, join, number}
 use Rattle.bits.specs.Twelve.{Bytes}
 use Rattle.bits.specs.Putting.{rankOf, bytesOf}

@@ -13,8 +13,8 @@ use lib.ListN.{getD}
 use borrow.Author.Tests.{eqb-true, eqb-false}
 use Rattle.bits.specs.Numbers.{Order, least, most, bitOf, bit, join, number}
 use Rattle.bits.specs.Twelve.{front, back}
-use Rattle.tables.specs.Upto.{both, upto}
-use Rattle.tables.proofs.Upto.{both-left, both-right, upto-at}
+use Rattle.prelude.specs.Upto.{both, upto}
+use Rattle.prelude.proofs.Upto.{both-left, both-right, upto-at}
 use Rattle.bits.proofs.Joins.{join-below, join-same, join-assoc, join-none}
 
 bit-of-below : (o : Order) (x j : ℕ) → bitOf o x j < 2 ^ 1

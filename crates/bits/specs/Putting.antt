@@ -6,7 +6,7 @@ use mathlib.Core.Path.{_≡_}
 use Prim.Native.Nat.{ℕ, suc, _+_, _-_, _*_, _/_, _%_, _^_, _<_, _≤_}
 use lib.Dec.{ltb}
 use lib.ListN.{length, getD}
-use Rattle.tables.specs.Build.{build}
+use Rattle.prelude.specs.Build.{build}
 use Rattle.buffers.specs.Laying.{laid}
 use Rattle.bits.specs.Numbers.{Order, least, most, wordIn}
 use Rattle.bits.specs.Twelve.{Bytes}

@@ -7,8 +7,8 @@ use native.Mathlib.Numerals.{add-one}
 use native.Mathlib.Omega.{arith}
 use lib.ListN.{length, getD, set, take, drop, length-drop}
 use lib.Seq.{paste, paste-suc, take-length, take-add, take-at, drop-drop, drop-at, ext-getD, getD-take, getD-drop, length-take-le}
-use Rattle.tables.specs.Build.{build}
-use Rattle.tables.proofs.Built.{length-build, getD-build}
+use Rattle.prelude.specs.Build.{build}
+use Rattle.prelude.proofs.Built.{length-build, getD-build}
 use Rattle.buffers.specs.Laying.{patch}
 
 module _ {ℓ} {A : Type ℓ} where

@@ -6,8 +6,8 @@ use mathlib.Core.Bool.{Bool}
 use Prim.Native.Nat.{ℕ, _+_, _-_, _%_, _<_, _≤_}
 use native.Mathlib.Omega.{arith}
 use lib.Dec.{T, eqb, eqb→eq}
-use Rattle.tables.specs.Upto.{both, upto}
-use Rattle.tables.proofs.Upto.{both-left, both-right, upto-at, is-true}
+use Rattle.prelude.specs.Upto.{both, upto}
+use Rattle.prelude.proofs.Upto.{both-left, both-right, upto-at, is-true}
 use Rattle.carriage.specs.Carriage.{total}
 use Rattle.bursts.specs.Bursts.{firstPacket, packets, burstSize, snapshotSize, rows, rowOf, allInPart, runsOf}
 use Rattle.bursts.specs.Bursts.{place, packetAt, carrierOf, Carried, Once}

@@ -5,7 +5,7 @@ use mathlib.Core.Path.{_≡_}
 use mathlib.Core.List.{List}
 use Prim.Native.Nat.{ℕ}
 use lib.IntN.{ℤ}
-use Rattle.tables.proofs.Single.{one}
+use Rattle.prelude.proofs.Single.{one}
 use Rattle.c_bursts.specs.Seconds.{BurstSamplesGiven}
 
 pub one-samples : (r : List ℕ) (which : ℕ) (room : List ℤ) (k n : ℕ) (a b : List ℤ)

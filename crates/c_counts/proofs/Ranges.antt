@@ -5,7 +5,7 @@ use mathlib.Core.Bool.{Bool, true, false}
 use Prim.Native.Nat.{ℕ}
 use native.Mathlib.Omega.{arith}
 use borrow.Author.Tests.{ne-eqb}
-use Rattle.tables.proofs.Conds.{cond-of}
+use Rattle.prelude.proofs.Conds.{cond-of}
 use Rattle.counts.specs.Codes.{times}
 use Rattle.counts.specs.Sums.{added, fits64, SumIs}
 use Rattle.counts.specs.declared.Range.{Range}

@@ -3,7 +3,7 @@
 use mathlib.Core.Path.{_≡_, sym, ap, _∙_}
 use mathlib.Core.List.{List}
 use Prim.Native.Nat.{ℕ}
-use Rattle.tables.proofs.Conds.{cond-of}
+use Rattle.prelude.proofs.Conds.{cond-of}
 use Rattle.cells.specs.Laying.{layable, FrameLaid}
 use Rattle.cells.specs.declared.laying.Placed.{Placed}
 use Rattle.cells.specs.declared.laying.Placed.the-variants as placed

@@ -5,7 +5,7 @@ use mathlib.Core.Path.{_≡_}
 use mathlib.Core.List.{List}
 use Prim.Native.Nat.{ℕ}
 use lib.ListN.{getD}
-use Rattle.tables.proofs.Single.{one}
+use Rattle.prelude.proofs.Single.{one}
 use Rattle.cells.specs.Raw.{holdsCell, isCell}
 use Rattle.c_answers.proofs.Single.{one-value}
 use Rattle.c_electrons.specs.Electrons.{LaidGiven, ByteGiven}

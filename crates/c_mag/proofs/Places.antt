@@ -6,7 +6,7 @@ use mathlib.Core.List.{List}
 use Prim.Native.Nat.{ℕ}
 use lib.Ieee.{Float}
 use lib.IntN.{ℤ}
-use Rattle.tables.proofs.Conds.{cond-of}
+use Rattle.prelude.proofs.Conds.{cond-of}
 use Rattle.mag.specs.Samples.{range, RangeIs, bothSized, Laid}
 use Rattle.mag.specs.Field.{fieldOf, hasField, fieldGiven, FieldIs, Answered}
 use Rattle.mag.specs.declared.unpacking.Unpacked.{Unpacked}

@@ -1,12 +1,12 @@
 -- One answer, and one content of what was lent: any two outcomes that a promise allows are equal. (lpmag_range promises an
--- equation: `one` of tables is its law.)
+-- equation: `one` of prelude is its law.)
 -- Assumes nothing.
 use mathlib.Core.Path.{_≡_}
 use mathlib.Core.List.{List}
 use Prim.Native.Nat.{ℕ}
 use lib.Ieee.{Float}
 use lib.IntN.{ℤ}
-use Rattle.tables.proofs.Single.{one}
+use Rattle.prelude.proofs.Single.{one}
 use Rattle.c_mag.specs.Magnetometer.{SamplesGiven, FieldGiven}
 
 pub one-samples : (m : List ℕ) (room : List ℤ) (k n : ℕ) (a b : List ℤ)

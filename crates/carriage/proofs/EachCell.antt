@@ -8,8 +8,8 @@ use native.Mathlib.Omega.{arith}
 use lib.Dec.{T, eqb, ltb, eqb→eq, ltb→lt}
 use lib.ListN.{length}
 use borrow.Author.Tests.{eq-eqb, ne-eqb, lt-ltb, le-ltb, ltb-true, ltb-false}
-use Rattle.tables.specs.Upto.{both, upto}
-use Rattle.tables.proofs.Upto.{both-left, both-right, upto-at}
+use Rattle.prelude.specs.Upto.{both, upto}
+use Rattle.prelude.proofs.Upto.{both-left, both-right, upto-at}
 use Rattle.carriage.specs.Carriage.{samplesIn, types, scienceSize, cells, threeD, rows, total, someHas, byteIn}
 use Rattle.carriage.specs.Carriage.{place, carrier, byteOf, Once, rowOf, runsOf, carries, none}
 use Rattle.carriage.specs.Steps.{restSize, restCell}

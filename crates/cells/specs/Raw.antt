@@ -5,7 +5,7 @@ use mathlib.Core.Bool.{Bool, _&&_}
 use mathlib.Core.List.{List}
 use lib.Dec.{ltb}
 use lib.ListN.{getD}
-use Rattle.tables.specs.Marks.{bitSet}
+use Rattle.prelude.specs.Marks.{bitSet}
 use Rattle.carriage.specs.Carriage.{types, cells, carrier}
 use Rattle.cells.specs.Bytes.{askableOf, rawOf, RawIs}
 use Rattle.cells.specs.Laying.{cellsSize}

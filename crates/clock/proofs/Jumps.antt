@@ -1,7 +1,7 @@
 -- The jumps, by computation.
 -- Assumes nothing.
 use mathlib.Core.Path.{refl}
-use Rattle.tables.specs.Every.{Every}
+use Rattle.prelude.specs.Every.{Every}
 use Rattle.clock.specs.Clock.{later, turnAt, turnFits, countOf, arrivalAt}
 use Rattle.clock.specs.Jumps.{Jumps, table}
 

@@ -7,7 +7,7 @@ use native.Mathlib.Nat.{zero-add, zero-mul}
 use native.Mathlib.Omega.{arith}
 use lib.Dec.{eqb, ltb, leb}
 use borrow.Author.Tests.{eqb-true, eqb-false, ltb-true, ltb-false, leb-true, lt-ltb, le-ltb, le-leb, lt-leb, ne-eqb}
-use Rattle.tables.proofs.Conds.{two, second}
+use Rattle.prelude.proofs.Conds.{two, second}
 use Rattle.record.specs.declared.Record.{Record}
 use Rattle.clock.specs.Clock.{circle, turns, counts, turnOf, ownOf, ahead, farthest, later, turnAt, turnFits, countOf, arrivalAt}
 use Rattle.clock.specs.Clock.{isLater, hasTurn, dated, accepted, unset, begun, clockListed}

@@ -6,8 +6,8 @@ use mathlib.Core.Bool.{Bool}
 use Prim.Native.Nat.{ℕ, suc, _+_, _*_, _-_, _/_, _%_, _^_, _<_, _≤_}
 use lib.Dec.{T, eqb, leb, eqb→eq, leb→le}
 use borrow.Author.Tests.{eq-eqb, ne-eqb}
-use Rattle.tables.specs.Upto.{both}
-use Rattle.tables.proofs.Upto.{both-left, both-right, upto-at}
+use Rattle.prelude.specs.Upto.{both}
+use Rattle.prelude.proofs.Upto.{both-left, both-right, upto-at}
 use Rattle.counts.specs.Codes.{lowest, highest, counts}
 
 -- the n-th of a code's mantissas from 16 on, shifted

@@ -1,7 +1,7 @@
--- One answer: any two outcomes that a promise allows are equal. (`range_of` promises an equation: `one` of tables is its law.)
+-- One answer: any two outcomes that a promise allows are equal. (`range_of` promises an equation: `one` of prelude is its law.)
 -- Assumes nothing.
 use mathlib.Core.Path.{_≡_}
-use Rattle.tables.proofs.Single.{one}
+use Rattle.prelude.proofs.Single.{one}
 use Rattle.counts.specs.Sums.{SumIs}
 use Rattle.counts.specs.declared.Range.{Range}
 use Rattle.counts.specs.declared.sums.Sum.{Sum}

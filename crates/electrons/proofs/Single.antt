@@ -1,7 +1,7 @@
 -- One answer: any two outcomes that a promise allows are equal. All four questions promise `CountIs`.
 -- Assumes nothing.
 use mathlib.Core.Path.{_≡_}
-use Rattle.tables.proofs.Single.{one}
+use Rattle.prelude.proofs.Single.{one}
 use Rattle.electrons.specs.Questions.{Asked, CountIs}
 use Rattle.electrons.specs.declared.questions.Count.{Count}
 

@@ -11,7 +11,7 @@ use Rattle.counts.specs.Codes.{rangeOf}
 use Rattle.counts.specs.declared.codes.Divided.{Divided}
 use Rattle.counts.specs.declared.codes.Divided.the-variants.{By1, By8, By16}
 use Rattle.carriage.specs.Carriage.{cells, sampleCell, threeCell}
-use Rattle.tables.specs.Marks.{bitSet}
+use Rattle.prelude.specs.Marks.{bitSet}
 use Rattle.cells.specs.Bytes.{rawOf}
 use Rattle.cells.specs.Raw.{holdsCell, askable, cellOf}
 use Rattle.cells.specs.declared.raw.Raw.{Raw}

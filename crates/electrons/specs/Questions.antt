@@ -13,7 +13,7 @@ use Rattle.counts.specs.declared.codes.Divided.{Divided}
 use Rattle.counts.specs.declared.codes.Divided.the-variants.{By1, By8, By16}
 use Rattle.carriage.specs.Carriage.{sampleSize, samplesIn, sampleCell, threeCell}
 use Rattle.cells.specs.Words.{Words, noSuchPlace, absent, scaleUnknown, given, said}
-use Rattle.tables.specs.Marks.{bitSet}
+use Rattle.prelude.specs.Marks.{bitSet}
 use Rattle.cells.specs.Raw.{holdsCell, askable}
 use Rattle.electrons.specs.declared.questions.Count.{Count}
 use Rattle.electrons.specs.declared.questions.Count.the-variants.{Within, ScaleUnknown, Absent, NoSuchPlace}

@@ -4,7 +4,7 @@
 use mathlib.Core.Path.{_≡_}
 use mathlib.Core.List.{List}
 use Prim.Native.Nat.{ℕ}
-use Rattle.tables.proofs.Single.{one}
+use Rattle.prelude.proofs.Single.{one}
 use Rattle.reader.specs.Buffers.{Buffers}
 use Rattle.feed.specs.Cutting.{CutIs, RestIs}
 use Rattle.feed.specs.Feeding.{Desk, DeskIs}

@@ -11,7 +11,7 @@ use lib.IntN.{ℤ}
 use lib.ListN.{length, getD}
 use lib.Pow.{areBytes}
 use borrow.Author.Tests.{eqb-true, eq-eqb, ltb-true, le-leb}
-use Rattle.tables.proofs.Conds.{two}
+use Rattle.prelude.proofs.Conds.{two}
 use Rattle.bits.specs.Numbers.{Order, most, number, wordIn, twelve, twelveIn}
 use Rattle.bits.specs.Twelve.{Bytes}
 use Rattle.bits.specs.Putting.{bytesOf}

@@ -11,7 +11,7 @@ use lib.Dec.{eqb, ltb}
 use lib.ListN.{length, getD, take, drop, length-append, length-drop, take-append-drop, List·getD-append}
 use lib.Seq.{take-at, drop-at, length-take-le, getD-drop, getD-append-add}
 use borrow.Author.Tests.{eqb-true, ltb-true, ltb-false}
-use Rattle.tables.specs.Every.{Every}
+use Rattle.prelude.specs.Every.{Every}
 use Rattle.bits.specs.Twelve.{Bytes}
 use Rattle.bits.proofs.BytesOf.{bytes-part}
 use Rattle.formats.specs.Part.{Part, PartLaw, Determined}

@@ -12,10 +12,10 @@ use lib.Dec.{eqb}
 use lib.ListN.{length, getD, take, drop, length-drop}
 use lib.Seq.{take-at, drop-at, drop-drop, take-add, take-take, length-take-le}
 use borrow.Author.Tests.{eq-eqb}
-use Rattle.tables.specs.Build.{build}
-use Rattle.tables.specs.Every.{Every}
-use Rattle.tables.proofs.Built.{length-build}
-use Rattle.tables.proofs.Every.{every-joined}
+use Rattle.prelude.specs.Build.{build}
+use Rattle.prelude.specs.Every.{Every}
+use Rattle.prelude.proofs.Built.{length-build}
+use Rattle.prelude.proofs.Every.{every-joined}
 use Rattle.buffers.specs.Laying.{patch}
 use Rattle.buffers.proofs.Patches.{length-patch, patch-none, patch-then}
 use Rattle.formats.specs.Part.{Part, PartLaw, readAt}

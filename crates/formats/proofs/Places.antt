@@ -11,7 +11,7 @@ use native.Mathlib.Omega.{arith}
 use lib.IntN.{ℤ}
 use lib.ListN.{length, getD, set, take, drop, length-drop}
 use lib.Seq.{set-split, drop-drop, getD-take, getD-drop, length-take-le}
-use Rattle.tables.specs.Build.{build}
+use Rattle.prelude.specs.Build.{build}
 use Rattle.buffers.specs.Laying.{patch}
 use Rattle.buffers.proofs.Patches.{laid-in}
 use Rattle.bits.specs.Numbers.{Order, most, wordIn, twelveIn}

@@ -8,8 +8,8 @@ use mathlib.Core.Path.{_≡_}
 use Prim.Native.Nat.{ℕ, zero, suc, _+_, _*_, _<_, _≤_}
 use lib.Dec.{eqb}
 use lib.ListN.{length, getD, take, drop}
-use Rattle.tables.specs.Build.{build}
-use Rattle.tables.specs.Every.{Every}
+use Rattle.prelude.specs.Build.{build}
+use Rattle.prelude.specs.Every.{Every}
 use Rattle.buffers.specs.Laying.{patch}
 use Rattle.formats.specs.Part.{Part, readAt}
 

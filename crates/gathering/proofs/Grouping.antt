@@ -5,8 +5,8 @@ use mathlib.Core.Bool.{Bool, true, false}
 use mathlib.Core.List.{List, [], _∷_, _++_, map, append-nil, append-assoc}
 use Prim.Native.Nat.{ℕ, _+_, _<_}
 use native.Mathlib.Omega.{arith}
-use Rattle.tables.specs.Every.{Every}
-use Rattle.tables.proofs.Every.{every-apart}
+use Rattle.prelude.specs.Every.{Every}
+use Rattle.prelude.proofs.Every.{every-apart}
 use Rattle.gathering.specs.Lists.{Pairwise, flat, those, Linked, final, Across, Cut}
 use Rattle.gathering.specs.Laying.{Rising}
 use Rattle.gathering.specs.Gathering.{Gatherer, gather, takenBy, Grouped, Gathers}

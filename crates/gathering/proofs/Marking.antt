@@ -9,9 +9,9 @@ use native.Mathlib.Omega.{arith}
 use lib.Count.{ones, onesIn}
 use lib.ListN.{length}
 use lib.Pow.{pow-mono, pow-pos}
-use Rattle.tables.specs.Marks.{bitSet, marked}
-use Rattle.tables.specs.Every.{Every}
-use Rattle.tables.proofs.Marks.{marked-own, marked-other, marked-below, ones-marked, bits-above}
+use Rattle.prelude.specs.Marks.{bitSet, marked}
+use Rattle.prelude.specs.Every.{Every}
+use Rattle.prelude.proofs.Marks.{marked-own, marked-other, marked-below, ones-marked, bits-above}
 use Rattle.gathering.specs.Laying.{putAll, Rising, Free, Table}
 use Rattle.gathering.proofs.Laying.{all-fit, stays, stand}
 use Rattle.gathering.proofs.Members.{In, in-every}

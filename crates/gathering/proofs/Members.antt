@@ -7,7 +7,7 @@ use mathlib.Core.Logic.{_⊎_, inl, inr, ⊎-elim}
 use Prim.Native.Nat.{ℕ, _+_, _<_, _≤_}
 use native.Mathlib.Decide.{ℕ-discrete}
 use native.Mathlib.Omega.{arith}
-use Rattle.tables.specs.Every.{Every}
+use Rattle.prelude.specs.Every.{Every}
 use Rattle.gathering.specs.Lists.{Some, Pairwise, ExactlyOne, Neighbours, those, flat, final, Across, Cut}
 use Rattle.gathering.specs.Laying.{Rising}
 use Rattle.gathering.proofs.Laying.{rising-down}

@@ -5,7 +5,7 @@ use mathlib.Core.Bool.{Bool, true, false, true≢false}
 use mathlib.Core.List.{List, [], _∷_}
 use mathlib.Core.Logic.{_⊎_, inl, inr, ⊎-elim}
 use Prim.Native.Nat.{ℕ}
-use Rattle.tables.specs.Every.{Every}
+use Rattle.prelude.specs.Every.{Every}
 use Rattle.gathering.specs.Lists.{Some, Pairwise, ExactlyOne, Neighbours, flat, Linked, Cut}
 use Rattle.gathering.specs.Laying.{Rising, Free}
 use Rattle.gathering.proofs.Members.{In, Among, among-all, every-in, in-every, some-in, one-has, each, some-out, once-in, beside}

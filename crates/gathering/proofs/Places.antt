@@ -10,8 +10,8 @@ use native.Mathlib.Omega.{arith}
 use lib.Dec.{ltb}
 use lib.ListN.{length}
 use borrow.Author.Tests.{ltb-true, ltb-false}
-use Rattle.tables.specs.Every.{Every}
-use Rattle.tables.proofs.Every.{every-map}
+use Rattle.prelude.specs.Every.{Every}
+use Rattle.prelude.proofs.Every.{every-map}
 use Rattle.gathering.specs.Lists.{Some, Pairwise, ExactlyOne, flat, Linked, final, Across, Cut}
 use Rattle.gathering.specs.Places.{At, Placed, placed, HasItem, HasBoth}
 use Rattle.gathering.proofs.Members.{In, of-both, every-in}

@@ -10,8 +10,8 @@ use native.Mathlib.Omega.{arith}
 use lib.Count.{ones, onesIn}
 use lib.Dec.{eqb, ltb}
 use borrow.Author.Tests.{eq-eqb, ne-eqb, eqb-true, eqb-false, ltb-true, ltb-false}
-use Rattle.tables.specs.Marks.{bitSet, marked}
-use Rattle.tables.proofs.Marks.{bits-above, marked-other, ones-marked, below}
+use Rattle.prelude.specs.Marks.{bitSet, marked}
+use Rattle.prelude.proofs.Marks.{bits-above, marked-other, ones-marked, below}
 use Rattle.gathering.specs.Lists.{Pairwise, flat, sum, total}
 
 pub total-same : (f g : ℕ → ℕ) (n : ℕ) → ((i : ℕ) → i < n → f i ≡ g i) → total f n ≡ total g n

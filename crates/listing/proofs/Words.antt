@@ -9,8 +9,8 @@ use native.Mathlib.Omega.{arith}
 use lib.Dec.{T, eqb, ltb, leb, eqb→eq, leb→le}
 use lib.ListN.{length, getD, take, drop, length-append, List·getD-eq-default}
 use borrow.Author.Tests.{ltb-true, ltb-false}
-use Rattle.tables.specs.Upto.{both}
-use Rattle.tables.proofs.Upto.{both-left, both-right, upto-at}
+use Rattle.prelude.specs.Upto.{both}
+use Rattle.prelude.proofs.Upto.{both-left, both-right, upto-at}
 use Rattle.listing.specs.Text.{ascii, space, Put}
 use Rattle.listing.specs.Decimal.{decimal}
 use Rattle.listing.specs.Refusals.{words, wordsOf, wordsSize, place, placeSize, refusalLine, refusalSize}

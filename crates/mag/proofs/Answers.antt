@@ -7,7 +7,7 @@ use Prim.Native.Nat.{ℕ}
 use lib.IntN.{ℤ}
 use lib.ListN.{length}
 use borrow.Author.Tests.{eq-eqb, ne-eqb}
-use Rattle.tables.specs.Build.{build}
+use Rattle.prelude.specs.Build.{build}
 use Rattle.mag.specs.Samples.{magSize, samplesSize, range, rangeGiven, RangeIs, magSized, bothSized, Laid}
 use Rattle.mag.specs.Fours.{fours, fourAt, sampleIn}
 use Rattle.mag.specs.declared.unpacking.Unpacked.{Unpacked}

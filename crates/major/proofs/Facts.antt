@@ -8,10 +8,10 @@ use lib.Dec.{eqb}
 use lib.ListN.{getD}
 use lib.Pow.{pow-mono}
 use borrow.Author.Tests.{eqb-true, eq-eqb, ne-eqb}
-use Rattle.tables.proofs.Conds.{two, second}
-use Rattle.tables.specs.Marks.{bitSet, highest}
-use Rattle.tables.proofs.Marks.{highest-high, bits-above}
-use Rattle.tables.proofs.Upto.{upto-true}
+use Rattle.prelude.proofs.Conds.{two, second}
+use Rattle.prelude.specs.Marks.{bitSet, highest}
+use Rattle.prelude.proofs.Marks.{highest-high, bits-above}
+use Rattle.prelude.proofs.Upto.{upto-true}
 use Rattle.clock.specs.Clock.{begun}
 use Rattle.clock.specs.declared.Clock.{Clock}
 use Rattle.clock.proofs.Laws.{has-begun}

@@ -10,10 +10,10 @@ use lib.ListN.{length, replicate, getD, length-set, length-replicate, getD-repli
 use lib.Pow.{pow-mono, pow-pos}
 use lib.Seq.{ext-getD, getD-set-same, getD-set-other}
 use borrow.Author.Tests.{eqb-true, eqb-false, eq-eqb, ne-eqb, le-leb}
-use Rattle.tables.specs.Marks.{bitSet, highest, marked}
-use Rattle.tables.proofs.Marks.{highest-marked, marked-own, marked-other, marked-below, bits-above, below}
-use Rattle.tables.proofs.Conds.{second}
-use Rattle.tables.proofs.Upto.{upto-all}
+use Rattle.prelude.specs.Marks.{bitSet, highest, marked}
+use Rattle.prelude.proofs.Marks.{highest-marked, marked-own, marked-other, marked-below, bits-above, below}
+use Rattle.prelude.proofs.Conds.{second}
+use Rattle.prelude.proofs.Upto.{upto-all}
 use Rattle.clock.specs.Clock.{accepted}
 use Rattle.clock.specs.declared.Clock.{Clock}
 use Rattle.clock.proofs.Laws.{not-begun}

@@ -9,9 +9,9 @@ use lib.Dec.{eqb}
 use lib.ListN.{set}
 use lib.Pow.{pow-mono, pow-pos}
 use borrow.Author.Tests.{eqb-true, eq-eqb}
-use Rattle.tables.specs.Marks.{bitSet, marked}
-use Rattle.tables.proofs.Conds.{two}
-use Rattle.tables.proofs.Marks.{weight, bits-above, below}
+use Rattle.prelude.specs.Marks.{bitSet, marked}
+use Rattle.prelude.proofs.Conds.{two}
+use Rattle.prelude.proofs.Marks.{weight, bits-above, below}
 use Rattle.major.specs.Major.{slotOf, noMajor, continues, into, stays, turns, stepMajor}
 use Rattle.major.specs.Place.{Free, slotFree, leaves, steppedAt, SteppedIs}
 use Rattle.major.specs.declared.Major.{Major}

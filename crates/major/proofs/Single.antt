@@ -1,9 +1,9 @@
--- One outcome: any two that the promise of `step` allows are equal. The others promise an equation (`one` of tables/Single).
+-- One outcome: any two that the promise of `step` allows are equal. The others promise an equation (`one` of prelude/Single).
 -- Assumes nothing.
 use mathlib.Core.Path.{_≡_}
 use mathlib.Core.Bool.{Bool}
 use Prim.Native.Nat.{ℕ}
-use Rattle.tables.proofs.Single.{one}
+use Rattle.prelude.proofs.Single.{one}
 use Rattle.major.specs.Place.{SteppedIs}
 use Rattle.major.specs.declared.Major.{Major}
 use Rattle.major.specs.declared.MajorStep.{MajorStep}

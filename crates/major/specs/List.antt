@@ -4,8 +4,8 @@ use Prim.Native.Nat.{ℕ}
 use mathlib.Core.Bool.{Bool, not, _&&_, _||_}
 use lib.Dec.{eqb, leb}
 use lib.ListN.{getD}
-use Rattle.tables.specs.Marks.{bitSet, highest}
-use Rattle.tables.specs.Upto.{upto}
+use Rattle.prelude.specs.Marks.{bitSet, highest}
+use Rattle.prelude.specs.Upto.{upto}
 use Rattle.clock.specs.Clock.{begun}
 use Rattle.clock.specs.declared.Clock.{Clock}
 use Rattle.major.specs.Major.{majorNumber, slotOf}

@@ -5,7 +5,7 @@ use Prim.Native.Nat.{ℕ, _/_, _^_, _<_, _≤_}
 use mathlib.Core.Bool.{Bool, true, false, cond, _&&_}
 use mathlib.Core.Path.{_≡_}
 use lib.Dec.{eqb}
-use Rattle.tables.specs.Marks.{bitSet}
+use Rattle.prelude.specs.Marks.{bitSet}
 use Rattle.buffers.specs.Working.{noWork}
 use Rattle.major.specs.Major.{slotOf, slots, majorUnreported, slotWork, continues, stays, turns, stepMajor}
 use Rattle.major.specs.declared.Major.{Major}

@@ -11,7 +11,7 @@ use lib.Ieee.{Float}
 use lib.IntN.{ℤ}
 use lib.ListN.{length, getD}
 use borrow.Author.Tests.{eq-eqb, ne-eqb, lt-ltb, le-ltb, eqb-true, ltb-true, not-true, not-false}
-use Rattle.tables.proofs.Conds.{two}
+use Rattle.prelude.proofs.Conds.{two}
 use Rattle.mag.specs.Samples.{samplesSize}
 use Rattle.mag.specs.Field.{fieldOf, isSample, hasField, fieldGiven, FieldIs, Answered}
 use Rattle.mag.specs.declared.nominal.Field.{Field}

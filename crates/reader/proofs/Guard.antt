@@ -6,11 +6,11 @@ use mathlib.Core.List.{List}
 use Prim.Native.Nat.{ℕ, _<_}
 use native.Mathlib.Omega.{arith}
 use borrow.Author.Tests.{eqb-true, eq-eqb}
-use Rattle.tables.specs.Marks.{bitSet, highest}
-use Rattle.tables.specs.Rules.{rule, holdsIn, allHold, ofPart}
-use Rattle.tables.proofs.Conds.{two}
-use Rattle.tables.proofs.Order.{idle-behind}
-use Rattle.tables.proofs.Upto.{somewhere-at, nowhere}
+use Rattle.prelude.specs.Marks.{bitSet, highest}
+use Rattle.prelude.specs.Rules.{rule, holdsIn, allHold, ofPart}
+use Rattle.prelude.proofs.Conds.{two}
+use Rattle.prelude.proofs.Order.{idle-behind}
+use Rattle.prelude.proofs.Upto.{somewhere-at, nowhere}
 use Rattle.record.specs.Frame.{carriesScience}
 use Rattle.record.specs.Layout.{packetBytes}
 use Rattle.record.specs.Rules.{rules}

@@ -6,7 +6,7 @@ use mathlib.Core.List.{List, []}
 use Prim.Native.Nat.{ℕ, _<_}
 use native.Mathlib.Omega.{arith}
 use lib.IntN.{pos}
-use Rattle.tables.specs.Rules.{FirstBroken}
+use Rattle.prelude.specs.Rules.{FirstBroken}
 use Rattle.buffers.specs.Clearing.{cleared}
 use Rattle.record.specs.Layout.{packetBytes}
 use Rattle.record.specs.Frame.{carriesMag}

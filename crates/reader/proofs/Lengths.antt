@@ -7,7 +7,7 @@ use Prim.Native.Nat.{ℕ, _+_, _≤_}
 use native.Mathlib.Omega.{arith}
 use lib.ListN.{length, length-replicate}
 use borrow.Author.Tests.{eqb-true, eq-eqb}
-use Rattle.tables.proofs.Conds.{two}
+use Rattle.prelude.proofs.Conds.{two}
 use Rattle.buffers.specs.Copying.{copied}
 use Rattle.buffers.proofs.Patches.{length-patch}
 use Rattle.bursts.specs.Bursts.{snapshotSize}

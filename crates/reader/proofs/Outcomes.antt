@@ -10,7 +10,7 @@ use lib.IntN.{ℤ, pos}
 use lib.ListN.{length, take, drop, length-take, length-drop}
 use lib.Seq.{take-all}
 use borrow.Author.Tests.{eq-eqb, eqb-true, eqb-false}
-use Rattle.tables.proofs.Conds.{two}
+use Rattle.prelude.proofs.Conds.{two}
 use Rattle.record.specs.Layout.{size, packetSize, packetBytes, frameCode}
 use Rattle.record.specs.Frame.{carriesBurst, carriesTwo, kindOf}
 use Rattle.record.specs.Parts.{PacketAtIs, hasBurst}

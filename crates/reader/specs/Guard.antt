@@ -7,9 +7,9 @@ use mathlib.Core.Logic.{_↔_}
 use mathlib.Core.Bool.{Bool, true, false, not, _&&_}
 use mathlib.Core.List.{List, [], _∷_, _++_}
 use mathlib.Core.Path.{_≡_}
-use Rattle.tables.specs.Marks.{bitSet}
-use Rattle.tables.specs.Rules.{Rule, rule, firstBroken, holdsIn}
-use Rattle.tables.specs.Upto.{somewhere}
+use Rattle.prelude.specs.Marks.{bitSet}
+use Rattle.prelude.specs.Rules.{Rule, rule, firstBroken, holdsIn}
+use Rattle.prelude.specs.Upto.{somewhere}
 use Rattle.record.specs.Frame.{carriesScience}
 use Rattle.record.specs.Layout.{packetBytes}
 use Rattle.carriage.specs.Carriage.{types, cells, rowOf, runsOf, someHas}

@@ -10,7 +10,7 @@ use lib.ListN.{length, take, drop, length-take, length-drop}
 use borrow.Author.Tests.{eqb-true, eq-eqb, ne-eqb, le-leb}
 use Rattle.bits.specs.Numbers.{wordIn}
 use Rattle.record.specs.Layout.{size, packetSize, packetBytes, bytesAt}
-use Rattle.tables.specs.Rules.{firstBroken}
+use Rattle.prelude.specs.Rules.{firstBroken}
 use Rattle.record.specs.Rules.{rules, broken, sizeHolds, verdictOf}
 use Rattle.record.specs.Contents.{recordOf, contentsOf, contentsNumber, ContentsIs}
 use Rattle.record.specs.Parts.{PartIs, PacketIs, PacketAtIs}

@@ -9,8 +9,8 @@ use lib.Dec.{eqb}
 use lib.ListN.{length}
 use borrow.Author.Tests.{eqb-true, eqb-false, eq-eqb, ne-eqb}
 use Rattle.record.specs.Layout.{size}
-use Rattle.tables.specs.Rules.{firstBroken, FirstBroken}
-use Rattle.tables.proofs.Order.{first-broken}
+use Rattle.prelude.specs.Rules.{firstBroken, FirstBroken}
+use Rattle.prelude.proofs.Order.{first-broken}
 use Rattle.record.specs.Rules.{rules, broken, verdictOf, sizeHolds, numberOf, VerdictIs, Exactly}
 use Rattle.record.specs.declared.rules.Verdict.the-variants.{Passes, Refused}
 

@@ -5,7 +5,7 @@ use mathlib.Core.Path.{_≡_}
 use mathlib.Core.Bool.{Bool}
 use mathlib.Core.List.{List}
 use Prim.Native.Nat.{ℕ}
-use Rattle.tables.proofs.Single.{one}
+use Rattle.prelude.proofs.Single.{one}
 use Rattle.record.specs.Frame.{KindIs}
 use Rattle.record.specs.Signal.{LevelIs}
 use Rattle.record.specs.Rules.{VerdictIs}

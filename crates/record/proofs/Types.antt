@@ -8,8 +8,8 @@ use native.Mathlib.Omega.{arith}
 use lib.Dec.{T, eqb, leb}
 use lib.ListN.{length, length-take, length-drop}
 use borrow.Author.Tests.{eq-eqb, ne-eqb, eqb-true, leb-true}
-use Rattle.tables.specs.Upto.{both, upto}
-use Rattle.tables.proofs.Upto.{both-left, both-right, upto-at}
+use Rattle.prelude.specs.Upto.{both, upto}
+use Rattle.prelude.proofs.Upto.{both-left, both-right, upto-at}
 use Rattle.record.specs.Layout.{size, packetSize, packetBytes, typeIn, frameCode, frameType, secondCode, magAt, secondAt, burstCount}
 use Rattle.record.specs.Frame.{isBurst, topSet, kindOfCodes, kindOf, undefinedCodes, codesOf, KindIs}
 use Rattle.record.specs.Frame.{isRealTime, carriesScience, carriesBurst, carriesTwo}

@@ -6,7 +6,7 @@ use mathlib.Core.List.{List}
 use mathlib.Core.Path.{_≡_}
 use lib.Dec.{eqb, leb}
 use lib.ListN.{length}
-use Rattle.tables.specs.Marks.{bitSet}
+use Rattle.prelude.specs.Marks.{bitSet}
 use Rattle.record.specs.Layout.{packetSize, typeIn, frameCode, secondCode}
 use Rattle.record.specs.declared.frame.Kind.{Kind}
 use Rattle.record.specs.declared.frame.Kind.the-variants.{RealTime, HalfBurst, FullBurst, Other, Undefined}

@@ -7,7 +7,7 @@ use mathlib.Core.List.{List, [], _∷_}
 use mathlib.Core.Path.{_≡_}
 use lib.Dec.{eqb, leb}
 use lib.ListN.{length}
-use Rattle.tables.specs.Rules.{Rule, rule, firstBroken, holdsIn, beforeHold, allHold}
+use Rattle.prelude.specs.Rules.{Rule, rule, firstBroken, holdsIn, beforeHold, allHold}
 use Rattle.record.specs.Layout.{size, sync, version, spacecraft, rate, spare, packetBytes, frameCode, secondCode}
 use Rattle.record.specs.Layout.{day, millisecond, statusSpare, firstFlag, secondFlag, thirdFlag}
 use Rattle.record.specs.Frame.{undefinedCodes}

@@ -5,7 +5,7 @@ use mathlib.Core.Bool.{true, _&&_}
 use Prim.Native.Nat.{ℕ, _-_}
 use lib.Dec.{ltb, leb}
 use lib.Ieee.{round}
-use Rattle.tables.specs.Every.{Every}
+use Rattle.prelude.specs.Every.{Every}
 use Rattle.bits.specs.Numbers.{bitOf, bit, join, number}
 use Rattle.mag.specs.Field.{hasField, fieldOf}
 use Rattle.counts.specs.Codes.{lowest, highest, divisor, rangeOf}

@@ -7,9 +7,9 @@ use native.Mathlib.Omega.{arith}
 use lib.Dec.{eqb, ltb, leb}
 use lib.Pow.{pow-mono}
 use borrow.Author.Tests.{eqb-true, ltb-true, leb-true, eq-eqb, ne-eqb, le-leb}
-use Rattle.tables.specs.Marks.{highest, marked}
-use Rattle.tables.proofs.Conds.{two, second}
-use Rattle.tables.proofs.Marks.{highest-high, none-above, weight}
+use Rattle.prelude.specs.Marks.{highest, marked}
+use Rattle.prelude.proofs.Conds.{two, second}
+use Rattle.prelude.proofs.Marks.{highest-high, none-above, weight}
 use Rattle.bursts.specs.Bursts.{firstPacket, packets}
 use Rattle.clock.specs.Clock.{begun}
 use Rattle.clock.specs.declared.Clock.{Clock}

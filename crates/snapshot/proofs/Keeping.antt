@@ -8,8 +8,8 @@ use native.Mathlib.Omega.{arith}
 use lib.Dec.{eqb}
 use lib.Pow.{pow-mono, pow-pos}
 use borrow.Author.Tests.{eqb-true, eqb-false, ne-eqb, lt-ltb, le-leb}
-use Rattle.tables.specs.Marks.{marked}
-use Rattle.tables.proofs.Marks.{highest-marked, marked-below, marked-some}
+use Rattle.prelude.specs.Marks.{marked}
+use Rattle.prelude.proofs.Marks.{highest-marked, marked-below, marked-some}
 use Rattle.bursts.specs.Bursts.{firstPacket, packets}
 use Rattle.clock.specs.Clock.{accepted}
 use Rattle.clock.specs.declared.Clock.{Clock}

@@ -3,7 +3,7 @@
 use Prim.Native.Nat.{_-_, _^_}
 use mathlib.Core.Bool.{Bool, not, _&&_, _||_}
 use lib.Dec.{eqb, ltb, leb}
-use Rattle.tables.specs.Marks.{highest}
+use Rattle.prelude.specs.Marks.{highest}
 use Rattle.bursts.specs.Bursts.{firstPacket, packets}
 use Rattle.clock.specs.Clock.{begun}
 use Rattle.clock.specs.declared.Clock.{Clock}

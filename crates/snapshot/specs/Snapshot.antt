@@ -3,7 +3,7 @@
 use Prim.Native.Nat.{ℕ, _+_, _-_, _^_}
 use mathlib.Core.Bool.{Bool, true, false, cond, not, _&&_, _||_}
 use lib.Dec.{eqb, ltb, leb}
-use Rattle.tables.specs.Marks.{bitSet, marked}
+use Rattle.prelude.specs.Marks.{bitSet, marked}
 use Rattle.buffers.specs.Working.{noWork}
 use Rattle.buffers.specs.declared.work.Work.{Work}
 use Rattle.bursts.specs.Bursts.{firstPacket, packetAt}

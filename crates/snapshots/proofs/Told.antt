@@ -9,7 +9,7 @@ use native.Mathlib.Omega.{arith}
 use lib.Dec.{ltb}
 use lib.ListN.{getD}
 use borrow.Author.Tests.{lt-ltb, le-ltb, ltb-true}
-use Rattle.tables.proofs.Conds.{two}
+use Rattle.prelude.proofs.Conds.{two}
 use Rattle.counts.specs.declared.codes.Divided.{Divided}
 use Rattle.bursts.specs.Bursts.{snapshotSize, anglesPart}
 use Rattle.cells.specs.Bytes.{RawIs}

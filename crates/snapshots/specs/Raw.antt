@@ -6,7 +6,7 @@ use mathlib.Core.Bool.{Bool, _&&_}
 use mathlib.Core.List.{List}
 use lib.Dec.{ltb}
 use lib.ListN.{getD}
-use Rattle.tables.specs.Marks.{bitSet}
+use Rattle.prelude.specs.Marks.{bitSet}
 use Rattle.bursts.specs.Bursts.{packets, snapshotSize, anglesPart, carrierOf}
 use Rattle.cells.specs.Bytes.{askableOf, rawOf, RawIs}
 use Rattle.cells.specs.declared.raw.Raw.{Raw}

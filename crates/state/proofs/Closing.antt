@@ -6,7 +6,7 @@ use mathlib.Core.Bool.{Bool, true, false, cond, _&&_}
 use Prim.Native.Nat.{ℕ}
 use lib.Dec.{eqb}
 use borrow.Author.Tests.{eqb-true, eqb-false}
-use Rattle.tables.proofs.Conds.{two}
+use Rattle.prelude.proofs.Conds.{two}
 use Rattle.accumulation.specs.Accumulation.{isOpen, clearsFor, laysFor}
 use Rattle.accumulation.specs.declared.Gap.{Gap}
 use Rattle.accumulation.specs.declared.Gap.the-variants.{Neither}

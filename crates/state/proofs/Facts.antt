@@ -3,7 +3,7 @@
 use mathlib.Core.Path.{_≡_, _∙_}
 use mathlib.Core.Bool.{true}
 use Prim.Native.Nat.{ℕ, _<_}
-use Rattle.tables.proofs.Conds.{two}
+use Rattle.prelude.proofs.Conds.{two}
 use Rattle.record.specs.Frame.{carriesMag, carriesScience, firstBurst}
 use Rattle.record.specs.declared.Record.{Record}
 use Rattle.clock.specs.Clock.{isLater, dated, clockListed}

@@ -9,8 +9,8 @@ use lib.Arith.{lt-of-le-ne}
 use lib.Dec.{eqb}
 use lib.ListN.{length, length-take, length-drop}
 use borrow.Author.Tests.{eq-eqb, ne-eqb}
-use Rattle.tables.specs.Rules.{ofPart, firstBroken, FirstBroken, rule}
-use Rattle.tables.proofs.Order.{parts-then, first-broken}
+use Rattle.prelude.specs.Rules.{ofPart, firstBroken, FirstBroken, rule}
+use Rattle.prelude.proofs.Order.{parts-then, first-broken}
 use Rattle.record.specs.Layout.{size, packetSize, packetBytes, magBytes}
 use Rattle.record.specs.Parts.{PacketAtIs, MagIs}
 use Rattle.record.specs.Rules.{rules, broken}

@@ -1,11 +1,11 @@
 -- One outcome: any two that a promise allows are equal. `listed`, `no_major` and `fresh` promise an equation (`one` of
--- tables/Single).
+-- prelude/Single).
 -- Assumes nothing.
 use mathlib.Core.Path.{_≡_}
 use mathlib.Core.Bool.{Bool}
 use mathlib.Core.List.{List}
 use Prim.Native.Nat.{ℕ}
-use Rattle.tables.proofs.Single.{one}
+use Rattle.prelude.proofs.Single.{one}
 use Rattle.state.specs.Deciding.{DecidedIs}
 use Rattle.state.specs.Ending.{EndedIs}
 use Rattle.state.specs.declared.State.{State}

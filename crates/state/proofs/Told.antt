@@ -14,7 +14,7 @@ use Rattle.record.specs.Rules.{broken}
 use Rattle.record.specs.Contents.{recordOf}
 use Rattle.record.proofs.Opened as opened
 use Rattle.record.proofs.Types as types
-use Rattle.tables.proofs.Conds.{two}
+use Rattle.prelude.proofs.Conds.{two}
 use Rattle.clock.specs.Clock.{accepted}
 use Rattle.accumulation.proofs.Closing as accumulation
 use Rattle.major.specs.Major.{slotOf, continues}

@@ -6,7 +6,7 @@ use mathlib.Core.Bool.{Bool, true, cond, _&&_}
 use mathlib.Core.List.{List, [], _∷_, _++_}
 use mathlib.Core.Path.{_≡_}
 use lib.Dec.{eqb}
-use Rattle.tables.specs.Rules.{Rule, rule, ofPart, firstBroken}
+use Rattle.prelude.specs.Rules.{Rule, rule, ofPart, firstBroken}
 use Rattle.record.specs.Layout.{packetBytes, magBytes}
 use Rattle.record.specs.Frame.{carriesMag, carriesScience, firstBurst}
 use Rattle.record.specs.Rules.{rules}

@@ -6,7 +6,7 @@ use mathlib.Core.Logic.{⊎-elim}
 use Prim.Native.Nat.{ℕ}
 use native.Mathlib.Omega.{arith}
 use lib.ListN.{length}
-use Rattle.tables.specs.Every.{Every}
+use Rattle.prelude.specs.Every.{Every}
 use Rattle.state.specs.List.{fresh}
 use Rattle.gathering.specs.Lists.{Pairwise, those}
 use Rattle.stream.specs.Running.{run, traceOf, ClosedAccumulation, accumulations}

@@ -7,8 +7,8 @@ use native.Mathlib.Nat.{div-eq-of-lt}
 use native.Mathlib.Omega.{arith}
 use lib.ListN.{length, getD, getD-replicate, length-replicate}
 use lib.Pow.{pow-pos}
-use Rattle.tables.specs.Every.{Every}
-use Rattle.tables.proofs.Every.{every-map}
+use Rattle.prelude.specs.Every.{Every}
+use Rattle.prelude.proofs.Every.{every-map}
 use Rattle.record.specs.Layout.{frameCode, scienceBytes}
 use Rattle.record.specs.Contents.{recordOf}
 use Rattle.carriage.specs.Carriage.{types, scienceSize, place}

@@ -4,7 +4,7 @@ use mathlib.Core.Path.{ap, subst, subst⁻¹, _∙_}
 use mathlib.Core.List.{List}
 use Prim.Native.Nat.{ℕ, _*_}
 use lib.ListN.{length}
-use Rattle.tables.specs.Every.{Every}
+use Rattle.prelude.specs.Every.{Every}
 use Rattle.mag.specs.Samples.{samplesSize}
 use Rattle.bursts.specs.Bursts.{burstSize}
 use Rattle.carriage.specs.Carriage.{scienceSize}

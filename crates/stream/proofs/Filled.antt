@@ -9,7 +9,7 @@ use native.Mathlib.Omega.{arith}
 use lib.Dec.{eqb}
 use lib.ListN.{getD}
 use borrow.Author.Tests.{eq-eqb}
-use Rattle.tables.specs.Every.{Every}
+use Rattle.prelude.specs.Every.{Every}
 use Rattle.record.specs.Layout.{scienceBytes}
 use Rattle.carriage.specs.Carriage.{cells, carrier, byteOf}
 use Rattle.cells.specs.Raw.{holdsCell}

@@ -8,8 +8,8 @@ use native.Mathlib.Omega.{arith}
 use lib.IntN.{ℤ}
 use lib.Pow.{pow-pos}
 use borrow.Author.Tests.{eqb-true, eqb-false, ne-eqb}
-use Rattle.tables.specs.Marks.{marked}
-use Rattle.tables.proofs.Conds.{two}
+use Rattle.prelude.specs.Marks.{marked}
+use Rattle.prelude.proofs.Conds.{two}
 use Rattle.major.specs.Major.{majorNumber, majorOpen, noMajor, continues, into}
 use Rattle.major.specs.declared.Major.{Major}
 use Rattle.gathering.specs.Gathering.{Gathers, Grouped}

@@ -5,7 +5,7 @@ use mathlib.Core.List.{List, [], _∷_}
 use mathlib.Core.Logic.{inl, inr}
 use Prim.Native.Nat.{ℕ, _+_, _<_}
 use native.Mathlib.Omega.{arith}
-use Rattle.tables.specs.Every.{Every}
+use Rattle.prelude.specs.Every.{Every}
 use Rattle.clock.specs.Clock.{circle, ownOf, accepted, unset}
 use Rattle.clock.proofs.Laws.{follows-none, follows-last}
 use Rattle.state.specs.List.{fresh}

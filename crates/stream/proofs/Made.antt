@@ -9,9 +9,9 @@ use lib.Dec.{T, ltb, ltb→lt}
 use lib.IntN.{ℤ, pos}
 use lib.ListN.{getD, replicate, length-replicate}
 use borrow.Author.Tests.{lt-ltb}
-use Rattle.tables.specs.Upto.{both}
-use Rattle.tables.specs.Rules.{firstBroken}
-use Rattle.tables.proofs.Upto.{both-left, both-right}
+use Rattle.prelude.specs.Upto.{both}
+use Rattle.prelude.specs.Rules.{firstBroken}
+use Rattle.prelude.proofs.Upto.{both-left, both-right}
 use Rattle.bits.specs.Numbers.{bitOf, bit, join, number}
 use Rattle.bits.specs.Twelve.{Bytes}
 use Rattle.bits.proofs.WordBytes.{none, more}

@@ -7,8 +7,8 @@ use mathlib.Core.Logic.{_⊎_, inl, inr, ⊎-elim}
 use Prim.Native.Nat.{ℕ, _<_, _≤_}
 use native.Mathlib.Omega.{arith}
 use lib.ListN.{getD}
-use Rattle.tables.specs.Marks.{bitSet}
-use Rattle.tables.specs.Every.{Every}
+use Rattle.prelude.specs.Marks.{bitSet}
+use Rattle.prelude.specs.Every.{Every}
 use Rattle.record.specs.Layout.{frameCode, scienceBytes}
 use Rattle.carriage.specs.Carriage.{types, place, carrier, byteOf}
 use Rattle.carriage.proofs.EachCell.{once}

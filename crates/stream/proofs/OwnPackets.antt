@@ -11,8 +11,8 @@ use native.Mathlib.Omega.{arith}
 use lib.Dec.{eqb}
 use lib.ListN.{length, getD}
 use borrow.Author.Tests.{eq-eqb}
-use Rattle.tables.specs.Every.{Every}
-use Rattle.tables.specs.Marks.{bitSet}
+use Rattle.prelude.specs.Every.{Every}
+use Rattle.prelude.specs.Marks.{bitSet}
 use Rattle.bursts.specs.Bursts.{firstPacket, burstSize, snapshotSize, place, carrierOf}
 use Rattle.bursts.proofs.Carries.{once}
 use Rattle.snapshot.specs.Snapshot.{packetType}

@@ -4,7 +4,7 @@ use mathlib.Core.Path.{_≡_, sym, subst, _∙_}
 use mathlib.Core.List.{List}
 use Prim.Native.Nat.{ℕ}
 use native.Mathlib.Omega.{arith}
-use Rattle.tables.specs.Marks.{bitSet}
+use Rattle.prelude.specs.Marks.{bitSet}
 use Rattle.gathering.specs.Lists.{Pairwise, flat}
 use Rattle.gathering.specs.Laying.{Rising}
 use Rattle.gathering.proofs.Members.{In, Among, every-in, unique, those-in, among-those}

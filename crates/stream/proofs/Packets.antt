@@ -6,8 +6,8 @@ use mathlib.Core.List.{List, [], _∷_, _++_}
 use Prim.Native.Nat.{ℕ, _+_, _*_, _<_}
 use native.Mathlib.Omega.{arith}
 use lib.ListN.{length, getD, length-take, length-drop, getD-replicate, length-replicate}
-use Rattle.tables.specs.Every.{Every}
-use Rattle.tables.proofs.Every.{every-map}
+use Rattle.prelude.specs.Every.{Every}
+use Rattle.prelude.proofs.Every.{every-map}
 use Rattle.record.specs.Layout.{packetSize, packetBytes}
 use Rattle.record.specs.Frame.{carriesBurst, carriesTwo}
 use Rattle.record.specs.Contents.{recordOf}

@@ -9,7 +9,7 @@ use native.Mathlib.Omega.{arith}
 use lib.IntN.{ℤ, pos}
 use lib.ListN.{length}
 use borrow.Author.Tests.{eq-eqb}
-use Rattle.tables.proofs.Built.{length-build}
+use Rattle.prelude.proofs.Built.{length-build}
 use Rattle.buffers.specs.Laying.{patch}
 use Rattle.buffers.specs.declared.work.Work.{Work}
 use Rattle.buffers.proofs.Patches.{length-patch}

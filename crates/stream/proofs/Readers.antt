@@ -9,10 +9,10 @@ use Prim.Native.Nat.{ℕ, _*_, _<_, _≤_}
 use native.Mathlib.Omega.{arith}
 use lib.Dec.{eqb, eqb→eq}
 use lib.ListN.{length, getD, getD-replicate}
-use Rattle.tables.specs.Upto.{both}
-use Rattle.tables.specs.Every.{Every}
-use Rattle.tables.proofs.Upto.{upto-at}
-use Rattle.tables.proofs.Every.{every-joined}
+use Rattle.prelude.specs.Upto.{both}
+use Rattle.prelude.specs.Every.{Every}
+use Rattle.prelude.proofs.Upto.{upto-at}
+use Rattle.prelude.proofs.Every.{every-joined}
 use Rattle.record.specs.Layout.{scienceBytes}
 use Rattle.record.specs.Contents.{recordOf}
 use Rattle.carriage.specs.Carriage.{cells, carrier, byteOf}

@@ -10,8 +10,8 @@ use native.Mathlib.Omega.{arith}
 use lib.Dec.{ltb, leb}
 use lib.Pow.{pow-pos}
 use borrow.Author.Tests.{ltb-true, leb-true, lt-ltb, le-leb, ne-eqb, leb-false}
-use Rattle.tables.specs.Marks.{marked}
-use Rattle.tables.proofs.Conds.{two}
+use Rattle.prelude.specs.Marks.{marked}
+use Rattle.prelude.proofs.Conds.{two}
 use Rattle.carriage.specs.Carriage.{types}
 use Rattle.accumulation.specs.Accumulation.{isOpen, noAccumulation, gap, fewest, most, joins, joined, started, passed}
 use Rattle.accumulation.specs.declared.Accumulation.{Accumulation}

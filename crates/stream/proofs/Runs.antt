@@ -6,7 +6,7 @@ use mathlib.Core.List.{List, [], _∷_}
 use Prim.Native.Nat.{ℕ}
 use lib.Dec.{eqb}
 use borrow.Author.Tests.{eqb-true, eqb-false}
-use Rattle.tables.specs.Every.{Every}
+use Rattle.prelude.specs.Every.{Every}
 use Rattle.state.specs.List.{listed}
 use Rattle.state.specs.Deciding.{Input, numberOf, acceptance, decidedOf, answerNumber}
 use Rattle.state.specs.Ending.{ending, unended, endedOf, endNumber, endingNumber}

@@ -8,9 +8,9 @@ use Prim.Native.Nat.{ℕ, _+_, _*_, _<_}
 use native.Mathlib.Omega.{arith}
 use lib.IntN.{ℤ, pos}
 use lib.ListN.{length, getD, set, getD-replicate, length-replicate}
-use Rattle.tables.specs.Marks.{marked}
-use Rattle.tables.specs.Every.{Every}
-use Rattle.tables.proofs.Built.{length-build, getD-build}
+use Rattle.prelude.specs.Marks.{marked}
+use Rattle.prelude.specs.Every.{Every}
+use Rattle.prelude.proofs.Built.{length-build, getD-build}
 use Rattle.buffers.specs.Laying.{patch}
 use Rattle.record.specs.Layout.{magBytes}
 use Rattle.record.specs.Contents.{recordOf}

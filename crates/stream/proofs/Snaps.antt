@@ -12,8 +12,8 @@ use lib.Dec.{eqb, ltb}
 use lib.ListN.{length}
 use lib.Pow.{pow-pos}
 use borrow.Author.Tests.{eqb-true, eqb-false, eq-eqb, ne-eqb, ltb-true, ltb-false, lt-ltb}
-use Rattle.tables.specs.Marks.{marked}
-use Rattle.tables.proofs.Conds.{two}
+use Rattle.prelude.specs.Marks.{marked}
+use Rattle.prelude.proofs.Conds.{two}
 use Rattle.record.specs.Frame.{carriesBurst, carriesTwo}
 use Rattle.record.specs.Contents.{recordOf}
 use Rattle.snapshot.specs.Snapshot.{isOpen, noSnapshot, packetType, cuts, joins}

@@ -6,8 +6,8 @@ use mathlib.Core.List.{List, [], _∷_}
 use mathlib.Core.Logic.{inl, inr, ⊎-elim}
 use Prim.Native.Nat.{ℕ, _<_, _≤_}
 use native.Mathlib.Omega.{arith}
-use Rattle.tables.specs.Marks.{bitSet}
-use Rattle.tables.specs.Every.{Every}
+use Rattle.prelude.specs.Marks.{bitSet}
+use Rattle.prelude.specs.Every.{Every}
 use Rattle.carriage.specs.Carriage.{types}
 use Rattle.state.specs.List.{fresh}
 use Rattle.gathering.specs.Lists.{Some, Pairwise, Neighbours, those}

@@ -4,7 +4,7 @@ use mathlib.Core.Path.{_≡_}
 use mathlib.Core.List.{List, [], _∷_}
 use Prim.Native.Nat.{ℕ, _+_, _<_}
 use native.Mathlib.Omega.{arith}
-use Rattle.tables.specs.Every.{Every}
+use Rattle.prelude.specs.Every.{Every}
 use Rattle.clock.specs.Clock.{circle, counts, ownOf}
 use Rattle.stream.specs.Sending.{sentCount, next, Fate, kept, removed, extra, sentMany, Unwrapped, Kept, keptOf, unspoiled}
 use Rattle.stream.specs.Cutting.{at}

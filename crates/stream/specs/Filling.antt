@@ -7,8 +7,8 @@ use Prim.Native.Nat.{ℕ, _+_, _*_, _^_, _<_}
 use lib.Count.{ones}
 use lib.IntN.{pos}
 use lib.ListN.{length, getD}
-use Rattle.tables.specs.Every.{Every}
-use Rattle.tables.specs.Marks.{bitSet}
+use Rattle.prelude.specs.Every.{Every}
+use Rattle.prelude.specs.Marks.{bitSet}
 use Rattle.record.specs.Layout.{packetBytes, frameCode, magBytes, scienceBytes}
 use Rattle.record.specs.Contents.{recordOf}
 use Rattle.mag.specs.Samples.{samplesSize, range, sample}

@@ -5,7 +5,7 @@ use mathlib.Core.Path.{_≡_}
 use mathlib.Core.Bool.{true}
 use mathlib.Core.List.{List}
 use Prim.Native.Nat.{ℕ}
-use Rattle.tables.specs.Every.{Every}
+use Rattle.prelude.specs.Every.{Every}
 use Rattle.state.specs.List.{fresh}
 use Rattle.state.specs.declared.State.{State}
 use Rattle.reader.specs.Buffers.{Buffers, sized}

@@ -9,8 +9,8 @@ use mathlib.Core.Logic.{_⊎_, _↔_}
 use Prim.Native.Nat.{ℕ, suc, _*_, _<_, _≤_}
 use lib.Dec.{eqb}
 use lib.ListN.{length, getD}
-use Rattle.tables.specs.Every.{Every}
-use Rattle.tables.specs.Marks.{bitSet}
+use Rattle.prelude.specs.Every.{Every}
+use Rattle.prelude.specs.Marks.{bitSet}
 use Rattle.record.specs.Layout.{frameCode, scienceBytes}
 use Rattle.bursts.specs.Bursts.{burstSize}
 use Rattle.carriage.specs.Carriage.{types, scienceSize, cells, carrier, byteOf}

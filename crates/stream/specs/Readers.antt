@@ -5,7 +5,7 @@
 use mathlib.Core.Path.{_≡_}
 use mathlib.Core.List.{List}
 use Prim.Native.Nat.{ℕ, _<_, _≤_}
-use Rattle.tables.specs.Every.{Every}
+use Rattle.prelude.specs.Every.{Every}
 use Rattle.listing.specs.Lines.{framesHeld}
 use Rattle.accumulation.specs.Accumulation.{unreported}
 use Rattle.state.specs.Deciding.{answerNumber}

@@ -4,7 +4,7 @@ use mathlib.Core.Path.{_≡_}
 use mathlib.Core.Bool.{Bool, true, cond}
 use mathlib.Core.List.{List, [], _∷_}
 use Prim.Native.Nat.{ℕ, _+_, _-_, _%_, _<_, _≤_}
-use Rattle.tables.specs.Every.{Every}
+use Rattle.prelude.specs.Every.{Every}
 use Rattle.bits.specs.Twelve.{Bytes}
 use Rattle.record.specs.Rules.{broken}
 use Rattle.record.specs.Contents.{recordOf}

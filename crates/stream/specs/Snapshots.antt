@@ -6,8 +6,8 @@ use mathlib.Core.List.{List, [], _∷_}
 use Prim.Native.Nat.{ℕ, _+_, _%_, _^_, _<_}
 use lib.Dec.{eqb}
 use lib.ListN.{length, getD}
-use Rattle.tables.specs.Every.{Every}
-use Rattle.tables.specs.Marks.{bitSet}
+use Rattle.prelude.specs.Every.{Every}
+use Rattle.prelude.specs.Marks.{bitSet}
 use Rattle.bursts.specs.Bursts.{firstPacket, packets, burstSize, snapshotSize, place, carrierOf}
 use Rattle.snapshot.specs.Snapshot.{packetType, markOf}
 use Rattle.listing.specs.Lines.{packetsHeld}

@@ -3,7 +3,7 @@
 use mathlib.Core.Path.{_≡_}
 use mathlib.Core.List.{List}
 use Prim.Native.Nat.{ℕ, _<_}
-use Rattle.tables.specs.Every.{Every}
+use Rattle.prelude.specs.Every.{Every}
 use Rattle.state.specs.List.{fresh}
 use Rattle.reader.specs.Buffers.{Buffers}
 use Rattle.gathering.specs.Lists.{Neighbours}

@@ -5,8 +5,8 @@ use mathlib.Core.Path.{_≡_, refl, ap, _∙_}
 use mathlib.Core.List.{List, _++_}
 use lib.ListN.{length, getD, set, drop}
 use denote.Ref.{now}
-use Rattle.tables.specs.Build.{build}
-use Rattle.tables.proofs.Built.{build-more, build-all}
+use Rattle.prelude.specs.Build.{build}
+use Rattle.prelude.proofs.Built.{build-more, build-all}
 use Rattle.buffers.proofs.Blocks.{read-all}
 use native.Mathlib.Omega.{arith}
 use borrow.Author.Needs.{needs}

@@ -1,7 +1,7 @@
 -- `state::listed` meets its contract.
 -- Assumes nothing.
 use mathlib.Core.Bool.{and-false}
-use Rattle.tables.proofs.Conds.{held, fails}
+use Rattle.prelude.proofs.Conds.{held, fails}
 use Rattle.clock.specs.Clock.{clockListed}
 use Rattle.accumulation.specs.List.{accumulationListed}
 use Rattle.state.specs.List.{listed}

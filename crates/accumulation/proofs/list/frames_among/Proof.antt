@@ -3,7 +3,7 @@
 use borrow.Author.Tests.{eq-eqb, ne-eqb, le-leb, lt-leb, lt-ltb, le-ltb}
 use Rattle.accumulation.specs.List.{framesAmong}
 use Rattle.accumulation.proofs.Clauses.{type-above}
-use Rattle.tables.specs.Marks.{highest}
+use Rattle.prelude.specs.Marks.{highest}
 use native.Mathlib.Omega.{arith}
 use borrow.Author.Needs.{needs}
 use Rattle.accumulation.proofs.list.frames_among.Statement.{statement}

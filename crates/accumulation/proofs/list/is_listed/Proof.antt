@@ -1,6 +1,6 @@
 -- `accumulation::list::is_listed` meets its contract.
 -- Assumes nothing.
-use Rattle.tables.proofs.Conds.{held, fails}
+use Rattle.prelude.proofs.Conds.{held, fails}
 use Rattle.accumulation.specs.List.{accumulationListed}
 use Rattle.accumulation.proofs.Facts.{first-below}
 use borrow.Author.Needs.{needs}

@@ -2,8 +2,8 @@
 -- Assumes nothing.
 use native.Mathlib.Omega.{arith}
 use lib.Pow.{pow-mono}
-use Rattle.tables.specs.Marks.{marked}
-use Rattle.tables.proofs.Marks.{weight}
+use Rattle.prelude.specs.Marks.{marked}
+use Rattle.prelude.proofs.Marks.{weight}
 use borrow.Author.Needs.{needs}
 use Rattle.accumulation.proofs.steps.extend.Statement.{statement}
 use Rattle.accumulation.proofs.steps.extend.Tie as tie

@@ -1,7 +1,7 @@
 -- `accumulation::steps::renew` meets its contract.
 -- Assumes nothing.
 use native.Mathlib.Omega.{arith}
-use Rattle.tables.proofs.Marks.{weight}
+use Rattle.prelude.proofs.Marks.{weight}
 use borrow.Author.Needs.{needs}
 use Rattle.accumulation.proofs.steps.renew.Statement.{statement}
 use Rattle.accumulation.proofs.steps.renew.Tie as tie

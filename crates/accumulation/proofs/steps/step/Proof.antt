@@ -3,7 +3,7 @@
 use borrow.Author.Needs.{needs}
 use mathlib.Core.Path.{sym, _∙_}
 use borrow.Author.Tests.{not-true, not-false}
-use Rattle.tables.proofs.Conds.{held, fails}
+use Rattle.prelude.proofs.Conds.{held, fails}
 use Rattle.accumulation.specs.Accumulation.{stepAccumulation}
 use Rattle.accumulation.specs.Place.{steppedAt}
 use Rattle.accumulation.proofs.Facts.{place-type, place-frames, place-after}

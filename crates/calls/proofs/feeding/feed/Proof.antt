@@ -1,7 +1,7 @@
 -- `calls::feeding::feed` meets its contract.
 -- Assumes nothing.
 use denote.Ref.{now}
-use Rattle.tables.proofs.Conds.{held, fails}
+use Rattle.prelude.proofs.Conds.{held, fails}
 use Rattle.calls.proofs.Handed.{feed-unread, feed-given}
 use borrow.Author.Needs.{needs}
 use Rattle.calls.proofs.feeding.feed.Statement.{statement}

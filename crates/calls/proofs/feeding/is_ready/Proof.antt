@@ -2,7 +2,7 @@
 -- Assumes nothing.
 use mathlib.Core.Path.{refl}
 use borrow.Author.Tests.{not-true, not-false}
-use Rattle.tables.proofs.Conds.{held, fails}
+use Rattle.prelude.proofs.Conds.{held, fails}
 use Rattle.calls.specs.Feeding.{readyBy}
 use borrow.Author.Needs.{needs}
 use Rattle.calls.proofs.feeding.is_ready.Statement.{statement}

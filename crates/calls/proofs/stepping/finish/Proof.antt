@@ -1,6 +1,6 @@
 -- `calls::stepping::finish` meets its contract.
 -- Assumes nothing.
-use Rattle.tables.proofs.Conds.{held, fails}
+use Rattle.prelude.proofs.Conds.{held, fails}
 use Rattle.calls.proofs.Handed.{finish-unread, finish-given}
 use borrow.Author.Needs.{needs}
 use Rattle.calls.proofs.stepping.finish.Statement.{statement}

@@ -1,7 +1,7 @@
 -- `calls::stepping::step` meets its contract.
 -- Assumes nothing.
 use denote.Ref.{now}
-use Rattle.tables.proofs.Conds.{held, fails}
+use Rattle.prelude.proofs.Conds.{held, fails}
 use Rattle.calls.proofs.Handed.{step-unread, step-given}
 use borrow.Author.Needs.{needs}
 use Rattle.calls.proofs.stepping.step.Statement.{statement}

@@ -5,8 +5,8 @@ use mathlib.Core.List.{[]}
 use Prim.Native.Nat.{ℕ, _≤_}
 use native.Mathlib.Omega.{arith}
 use lib.ListN.{List·getD-eq-default}
-use Rattle.tables.specs.Build.{build}
-use Rattle.tables.proofs.Arms.{past-arms}
+use Rattle.prelude.specs.Build.{build}
+use Rattle.prelude.proofs.Arms.{past-arms}
 use Rattle.carriage.specs.Carriage.{samplesIn, rows, rowOf, carries, none}
 use Rattle.carriage.specs.Numbers.{numbersOf}
 use Rattle.carriage.proofs.numbers.numbers_of.Statement.{statement}

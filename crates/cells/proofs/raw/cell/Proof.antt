@@ -1,7 +1,7 @@
 -- `cells::raw::cell` meets its contract.
 -- Assumes nothing.
 use denote.Ref.{now}
-use Rattle.tables.proofs.Conds.{held, fails}
+use Rattle.prelude.proofs.Conds.{held, fails}
 use Rattle.carriage.specs.Carriage.{types, cells}
 use Rattle.cells.specs.Laying.{cellsSize}
 use Rattle.cells.proofs.Bytes.{no-size, no-mark, no-place, not-held, is-held}

@@ -1,7 +1,7 @@
 -- `major::list::is_listed` meets its contract.
 -- Assumes nothing.
 use borrow.Author.Needs.{needs}
-use Rattle.tables.proofs.Conds.{held, fails}
+use Rattle.prelude.proofs.Conds.{held, fails}
 use Rattle.major.specs.List.{majorListed}
 use Rattle.major.proofs.list.is_listed.Statement.{statement}
 use Rattle.major.proofs.list.is_listed.Tie as tie

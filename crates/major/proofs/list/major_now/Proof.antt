@@ -2,7 +2,7 @@
 -- Assumes nothing.
 use borrow.Author.Tests.{eq-eqb, ne-eqb, le-leb, lt-leb, lt-ltb, le-ltb}
 use Rattle.major.specs.List.{majorNow}
-use Rattle.tables.specs.Marks.{highest}
+use Rattle.prelude.specs.Marks.{highest}
 use borrow.Author.Needs.{needs}
 use Rattle.major.proofs.list.major_now.Statement.{statement}
 use Rattle.major.proofs.list.major_now.Tie as tie

@@ -4,7 +4,7 @@ use mathlib.Core.Path.{_≡_, refl, sym, ap, _∙_}
 use mathlib.Core.Bool.{Bool, true, false, _&&_}
 use Prim.Native.Nat.{ℕ, _≤_, _+_, _-_}
 use native.Mathlib.Numerals.{add-one}
-use Rattle.tables.specs.Upto.{both, upto}
+use Rattle.prelude.specs.Upto.{both, upto}
 use Rattle.major.specs.List.{slotHolds, slotsHold}
 use native.Mathlib.Omega.{arith}
 use borrow.Author.Needs.{needs}

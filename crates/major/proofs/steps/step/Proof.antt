@@ -1,6 +1,6 @@
 -- `major::steps::step` meets its contract.
 -- Assumes nothing.
-use Rattle.tables.proofs.Conds.{held, fails}
+use Rattle.prelude.proofs.Conds.{held, fails}
 use Rattle.major.proofs.Parts.{room-free, is-turned, is-left, is-stayed}
 use borrow.Author.Needs.{needs}
 use Rattle.major.proofs.steps.step.Statement.{statement}

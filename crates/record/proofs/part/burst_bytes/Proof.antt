@@ -4,7 +4,7 @@ use mathlib.Core.Path.{sym, ap, subst, _∙_}
 use Prim.Native.Nat.{ℕ, _+_, _-_}
 use lib.ListN.{take, drop}
 use denote.Ref.{now}
-use Rattle.tables.proofs.Conds.{held, fails}
+use Rattle.prelude.proofs.Conds.{held, fails}
 use Rattle.record.specs.Layout.{burstCount}
 use Rattle.record.specs.Frame.{kindOf}
 use Rattle.record.specs.Parts.{PartIs, hasBurst, burstAt}

@@ -1,7 +1,7 @@
 -- `record::rules::broken_of` meets its contract: the rules 3 to 11, in their order.
 -- Assumes nothing.
 use borrow.Author.Tests.{eq-eqb}
-use Rattle.tables.specs.Rules.{firstBroken}
+use Rattle.prelude.specs.Rules.{firstBroken}
 use Rattle.record.specs.Rules.{rules, broken, sizeHolds}
 use borrow.Author.Needs.{needs}
 use Rattle.record.proofs.rules.broken_of.Statement.{statement}

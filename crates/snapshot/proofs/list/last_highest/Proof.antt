@@ -2,7 +2,7 @@
 -- Assumes nothing.
 use borrow.Author.Tests.{eq-eqb, ne-eqb, le-leb, lt-leb}
 use Rattle.snapshot.specs.List.{lastHighest}
-use Rattle.tables.specs.Marks.{highest}
+use Rattle.prelude.specs.Marks.{highest}
 use Rattle.snapshot.proofs.Facts.{type-above}
 use native.Mathlib.Omega.{arith}
 use borrow.Author.Needs.{needs}

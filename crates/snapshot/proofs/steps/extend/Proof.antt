@@ -1,7 +1,7 @@
 -- `snapshot::steps::extend` meets its contract.
 -- Assumes nothing.
 use Rattle.snapshot.proofs.Facts.{part-from, mark-weight, mark-shift}
-use Rattle.tables.specs.Marks.{marked}
+use Rattle.prelude.specs.Marks.{marked}
 use native.Mathlib.Omega.{arith}
 use borrow.Author.Needs.{needs}
 use Rattle.snapshot.proofs.steps.extend.Statement.{statement}

@@ -1,7 +1,7 @@
 -- `snapshot::steps::step_packet` meets its contract.
 -- Assumes nothing.
 use mathlib.Core.Path.{sym, _∙_}
-use Rattle.tables.proofs.Conds.{held, fails}
+use Rattle.prelude.proofs.Conds.{held, fails}
 use Rattle.snapshot.specs.Snapshot.{stepPacket}
 use borrow.Author.Needs.{needs}
 use Rattle.snapshot.proofs.steps.step_packet.Statement.{statement}

@@ -3,7 +3,7 @@
 use mathlib.Core.Path.{sym, ap₂, _∙_}
 use borrow.Author.Tests.{not-false}
 use denote.Ref.{now}
-use Rattle.tables.proofs.Conds.{held, fails}
+use Rattle.prelude.proofs.Conds.{held, fails}
 use Rattle.record.proofs.Opened.{sized}
 use Rattle.record.proofs.Told.{fields-told, number-told}
 use Rattle.state.specs.List.{listed}

@@ -1,7 +1,7 @@
 -- `state::ending::end` meets its contract.
 -- Assumes nothing.
 use borrow.Author.Tests.{not-false}
-use Rattle.tables.proofs.Conds.{held, fails}
+use Rattle.prelude.proofs.Conds.{held, fails}
 use Rattle.state.specs.List.{listed}
 use Rattle.state.proofs.Ends.{is-unended, is-ended}
 use Rattle.state.proofs.Numbers.{off}

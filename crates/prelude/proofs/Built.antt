@@ -11,7 +11,7 @@ use lib.Dec.{eqb}
 use lib.ListN.{length, getD, set, drop, length-append, List·getD-append}
 use lib.Seq.{drop-cons, drop-length, set-at, append-snoc, getD-at}
 use borrow.Author.Tests.{eqb-true, eqb-false}
-use Rattle.tables.specs.Build.{build}
+use Rattle.prelude.specs.Build.{build}
 
 module _ {ℓ} {A : Type ℓ} (f : ℕ → A) where
   pub length-build : (n : ℕ) → length (build f n) ≡ n

@@ -7,8 +7,8 @@ use Prim.Native.Nat.{ℕ, _<_}
 use native.Mathlib.Omega.{arith}
 use lib.Dec.{eqb}
 use borrow.Author.Tests.{eqb-true, eqb-false, eq-eqb, ne-eqb}
-use Rattle.tables.specs.Rules.{Rule, rule, ofPart, firstBroken, holdsIn, beforeHold, allHold, FirstBroken, lacks, apart, distinct}
-use Rattle.tables.proofs.Conds.{two}
+use Rattle.prelude.specs.Rules.{Rule, rule, ofPart, firstBroken, holdsIn, beforeHold, allHold, FirstBroken, lacks, apart, distinct}
+use Rattle.prelude.proofs.Conds.{two}
 
 -- true and false are two
 never : {t : Bool} → t ≡ true → t ≡ false → ⊥

@@ -7,7 +7,7 @@ use native.Mathlib.Omega.{arith}
 use native.Mathlib.Nat.{not-suc-le-zero}
 use native.Mathlib.Decide.{decLt}
 use lib.Dec.{T}
-use Rattle.tables.specs.Upto.{both, upto, somewhere}
+use Rattle.prelude.specs.Upto.{both, upto, somewhere}
 
 pub both-left : (a b : Bool) → T (both a b) → T a
 unfolding both

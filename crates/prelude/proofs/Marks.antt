@@ -10,7 +10,7 @@ use lib.Count.{ones, onesIn, ones-cat}
 use lib.Dec.{ltb}
 use lib.Pow.{pow-mono, pow-pos, pow-lt, pow-add}
 use borrow.Author.Tests.{eqb-true, eqb-false, ltb-true, ltb-false}
-use Rattle.tables.specs.Marks.{bitSet, highest, marked}
+use Rattle.prelude.specs.Marks.{bitSet, highest, marked}
 
 -- the mark of u as a shift of 1 makes it
 pub weight : (w u : ℕ) → u < w → 1 * 2 ^ u % 2 ^ w ≡ 2 ^ u

@@ -1,7 +1,7 @@
 -- What each element of a list has: where two lists are joined, and what follows from it.
 -- Assumes nothing.
 use mathlib.Core.List.{List, [], _∷_, _++_}
-use Rattle.tables.specs.Every.{Every}
+use Rattle.prelude.specs.Every.{Every}
 
 module _ {A : Type 0} (P : A → Type 0) where
   pub every-apart : (xs ys : List A) → Every P (xs ++ ys) → Every P xs × Every P ys
