@@ -2,7 +2,7 @@
 # how C is compiled. freestanding/ has the few headers that the kit's clang lacks for its target.
 
 if ! command -v rt >/dev/null; then
-    echo "kit: rt was not found; install Rattle's kit and put rt on the PATH" >&2
+    echo "rt was not found; install Rattle's kit and put rt on the PATH" >&2
     exit 1
 fi
 kit=$(dirname "$(dirname "$(readlink -f "$(command -v rt)")")")
@@ -11,7 +11,7 @@ toolchain=$kit/on/$machine/toolchain
 link=$kit/on/$machine/bin/rattle-link
 target=x86_64-unknown-linux-gnu
 if [ ! -x "$toolchain/bin/clang" ] || [ ! -x "$link" ]; then
-    echo "kit: the kit that holds rt has no compiler or linker for this machine ($machine)" >&2
+    echo "the kit that holds rt has no compiler or linker for this machine ($machine)" >&2
     exit 1
 fi
 freestanding=$(cd "$(dirname "${BASH_SOURCE[0]}")" && pwd)/freestanding

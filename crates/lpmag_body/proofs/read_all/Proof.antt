@@ -1,11 +1,11 @@
--- `lpmag::read_all` is safe and ends: the buffers keep their sizes, and the turns run out.
+-- `lpmag_body::read_all` is safe and ends: the buffers keep their sizes, and the turns run out.
 -- Assumes nothing.
 use mathlib.Core.Path.{_≡_, _∙_}
 use lib.ListN.{length}
 use native.Mathlib.Omega.{arith}
 use borrow.Author.Needs.{needs}
-use Rattle.lpmag.proofs.read_all.Statement.{statement}
-use Rattle.lpmag.proofs.read_all.Tie as tie
+use Rattle.lpmag_body.proofs.read_all.Statement.{statement}
+use Rattle.lpmag_body.proofs.read_all.Tie as tie
 
 abbrev Inv-loop : tie.InvT-loop
 Inv-loop bytes₀ page₀ oc₀ fc₀ os₀ fs₀ o₀ f₀ s₀ run₀ state₀ turns₀ bytes page oc fc os fs o f s run state turns =

@@ -1,19 +1,26 @@
-// Prints the listing of the records in its input (01, "The listing, whole"): of standard input, or of the files that its arguments
-// name, their bytes laid end to end. It only reads, writes and says what failed: records are cut, read and listed by the proved
-// libraries.
-mod input;
-mod options;
-mod output;
+// The program lpmag: it prints the listing of the records in its input (01, "The listing, whole"), of standard input, or of the files
+// that its arguments name, their bytes laid end to end. It only reads, writes and says what failed: records are cut, read and listed
+// by the proved libraries.
+ghost use Prim.Native.Nat.{_≤_};
+
 mod run;
 mod said;
 
-use options::Options;
+use programs::within;
 use run::Run;
-use said::within;
 use state::State;
 
+// its name, for what it says, and the letters of its options, by their places
+pub(crate) const NAME: [u8; 5] = *b"lpmag";
+
+const LETTERS: [u8; 2] = *b"vh";
+
+const VERBOSE: usize = 0;
+
+const HELP: usize = 1;
+
 // 256 records: large reads, and little enough to stay in a processor's second cache.
-const INPUT: usize = 120832;
+const INPUT: usize = 256 * record::Record::SIZE;
 
 const OUTPUT: usize = 32768;
 
@@ -94,7 +101,7 @@ fn end_listing(
 }
 
 // The listing of all that can be read; answers whether that was everything.
-fn list(options: Options) -> bool {
+fn list(from_files: bool, verbose: bool) -> bool {
     let mut bytes = [0u8; INPUT];
     let mut page = [0u8; OUTPUT];
     let mut open_cells = [0u8; cells::SIZE];
@@ -104,7 +111,7 @@ fn list(options: Options) -> bool {
     let mut open_snapshot = [0u8; bursts::SNAPSHOT];
     let mut first_snapshot = [0u8; bursts::SNAPSHOT];
     let mut second_snapshot = [0u8; bursts::SNAPSHOT];
-    let begun = run::begin(options, &mut page);
+    let begun = run::begin(from_files, verbose, &mut page);
     let read = read_all(
         begun,
         state::fresh(),
@@ -133,18 +140,24 @@ fn list(options: Options) -> bool {
     )
 }
 
-fn main() {
-    let options = options::read();
-    if options.unknown {
-        said::status(options.status, b"2");
-        return;
+// Answers its status (0 good, 1 not all could be read or written, 2 an unknown option); one line of C hands it to the system.
+#[no_mangle]
+pub extern "C" fn lpmag_main() -> u8
+    ensures { λ r. ⌜ r ≤ 2 ⌝ }
+{
+    let options = programs::read_options(&NAME, &LETTERS);
+    if options.wrong {
+        return programs::WRONG_USE;
     }
-    let is_done = if options.help {
+    let given = options.given;
+    let is_done = if given[HELP] {
         said::explain()
     } else {
-        list(options)
+        list(options.files, given[VERBOSE])
     };
-    if !is_done {
-        said::status(options.status, b"1");
+    if is_done {
+        programs::GOOD
+    } else {
+        programs::FAILED
     }
 }

@@ -1,11 +1,9 @@
 // One listing, from its first line to its last.
-use crate::input;
-use crate::input::Source;
-use crate::options::Options;
-use crate::output;
+use crate::NAME;
 use crate::said;
-use crate::said::within;
 use feed::Fed;
+use programs::Source;
+use programs::within;
 use record::Verdict;
 use state::Finished;
 
@@ -26,8 +24,8 @@ pub struct Run {
     pub goes_on: bool,
 }
 
-pub(crate) fn begin(options: Options, page: &mut [u8]) -> Run {
-    let source = input::first(options.files);
+pub(crate) fn begin(from_files: bool, verbose: bool, page: &mut [u8]) -> Run {
+    let source = programs::first(from_files);
     Run {
         source: source,
         have: 0,
@@ -35,16 +33,22 @@ pub(crate) fn begin(options: Options, page: &mut [u8]) -> Run {
         begins: 0,
         made: listing::put_header(page, 0),
         refused: 0,
-        verbose: options.verbose,
+        verbose: verbose,
         all_written: true,
         goes_on: true,
     }
 }
 
+// Lines gather in a page that is written when the next lines could be too many for it: when there is too little room for what one
+// record can close, and the last line after it.
+fn is_full(page: &[u8], made: usize) -> bool {
+    page.len() - within(made, page) < listing::CLOSED + listing::REFUSED
+}
+
 // Once something couldn't be written nothing more is, and nothing more is read.
 fn write_page(run: Run, page: &[u8]) -> Run {
     let mut run = run;
-    if run.all_written && !output::write(page, run.made) {
+    if run.all_written && !programs::write_page(&NAME, page, run.made) {
         run.all_written = false;
         run.goes_on = false;
     }
@@ -53,7 +57,7 @@ fn write_page(run: Run, page: &[u8]) -> Run {
 }
 
 fn make_room(run: Run, page: &[u8]) -> Run {
-    if !output::is_full(page, run.made) {
+    if !is_full(page, run.made) {
         return run;
     }
     write_page(run, page)
@@ -99,7 +103,7 @@ pub(crate) fn refill(run: Run, bytes: &mut [u8]) -> Run {
     }
     let mut run = keep_rest(run, bytes);
     let have = within(run.have, bytes);
-    let input = input::read(run.source, &mut bytes[have..]);
+    let input = programs::read(run.source, &NAME, &mut bytes[have..]);
     let source = input.source;
     run.source = source;
     run.have = std::num::wrapping_add_usize(have, input.got);

@@ -1,15 +1,15 @@
--- `lpmag::options::read` is safe and ends: each turn looks at one argument.
+-- `programs::options::read_options` is safe and ends: each turn looks at one argument.
 -- Assumes nothing.
 use Prim.Native.Nat.{_-_}
 use borrow.Author.Needs.{needs}
-use Rattle.lpmag.proofs.options.read.Statement.{statement}
-use Rattle.lpmag.proofs.options.read.Tie as tie
+use Rattle.programs.proofs.options.read_options.Statement.{statement}
+use Rattle.programs.proofs.options.read_options.Tie as tie
 
 abbrev Inv-loop : tie.InvT-loop
-Inv-loop options₀ count i₀ options i = Unit {0}
+Inv-loop program letters options₀ count i₀ options i = Unit {0}
 
 abbrev μ-loop : tie.MeasureT-loop
-μ-loop options₀ count i₀ options i = count - i
+μ-loop program letters options₀ count i₀ options i = count - i
 
 arg-count-requires : tie.Need-arg-count-requires Inv-loop μ-loop
 arg-count-requires c κs = search needs
@@ -32,8 +32,8 @@ loop-again c = tt
 returns : tie.Need-returns Inv-loop μ-loop
 returns c = search needs
 
-pub read-spec : {M : Type 1} → statement M
-read-spec =
+pub read-options-spec : {M : Type 1} → statement M
+read-options-spec =
     tie.close
     (tie.spec
     Inv-loop

@@ -1,6 +1,7 @@
-// The input: standard input, or the files named, their bytes laid end to end.
+// A program's input: standard input, or the files named, their bytes laid end to end.
 use crate::options;
 use crate::said;
+use crate::said::within;
 use libc::STDIN_FILENO;
 
 pub struct Source {
@@ -19,7 +20,7 @@ pub struct Input {
     pub got: usize,
 }
 
-pub(crate) fn first(from_files: bool) -> Source {
+pub fn first(from_files: bool) -> Source {
     Source {
         argument: if from_files { 1 } else { 0 },
         fd: STDIN_FILENO,
@@ -29,30 +30,31 @@ pub(crate) fn first(from_files: bool) -> Source {
     }
 }
 
-// What can't be read ends the input; what came before it is listed whole.
-fn fail(source: Source, name: &[u8], what: &[u8]) -> Source {
-    said::complain(name, what);
+// What can't be read ends the input; what came before it stays.
+fn fail(source: Source, program: &[u8], name: &[u8], what: &[u8]) -> Source {
+    said::complain(program, name, what);
     let mut source = source;
     source.goes_on = false;
     source.all_read = false;
     source
 }
 
-fn fail_reading(source: Source, name: &[u8]) -> Source {
+fn fail_reading(source: Source, program: &[u8], name: &[u8]) -> Source {
     let what = b" could not be read, and the input ends there";
     if source.argument == 0 {
-        return fail(source, b"standard input", what);
+        return fail(source, program, b"standard input", what);
     }
-    fail(source, name, what)
+    fail(source, program, name, what)
 }
 
 // Opens the file that the argument names; an option names none.
-fn open_argument(source: Source) -> Source {
+fn open_argument(source: Source, program: &[u8]) -> Source {
     let mut space = io::buffer();
     let length = os::arg(source.argument, &mut space);
     if os::errno() != 0 {
         return fail(
             source,
+            program,
             b"an argument",
             b" is too long for a name, and the input ends there",
         );
@@ -66,6 +68,7 @@ fn open_argument(source: Source) -> Source {
     if fd < 0 {
         return fail(
             source,
+            program,
             &space[..length],
             b" could not be opened, and the input ends there",
         );
@@ -76,9 +79,9 @@ fn open_argument(source: Source) -> Source {
 }
 
 // The next argument, if there is one.
-fn open_next(source: Source) -> Source {
+fn open_next(source: Source, program: &[u8]) -> Source {
     if source.argument < os::arg_count() {
-        return open_argument(source);
+        return open_argument(source, program);
     }
     let mut source = source;
     source.goes_on = false;
@@ -99,7 +102,7 @@ fn end_file(source: Source) -> Source {
 }
 
 // One read into the room, of a source that is open. Its name is asked for first, since that sets errno.
-fn read_open(source: Source, room: &mut [u8]) -> Input {
+fn read_open(source: Source, program: &[u8], room: &mut [u8]) -> Input {
     let mut space = io::buffer();
     let length = os::arg(source.argument, &mut space);
     let got = libc::read(source.fd, room);
@@ -114,7 +117,7 @@ fn read_open(source: Source, room: &mut [u8]) -> Input {
     } else if os::errno() == libc::EINTR {
         source
     } else {
-        fail_reading(source, &space[..length])
+        fail_reading(source, program, &space[..length])
     };
     Input {
         source: after,
@@ -123,13 +126,43 @@ fn read_open(source: Source, room: &mut [u8]) -> Input {
 }
 
 // One read into the room, or a step towards it: then nothing is read.
-pub(crate) fn read(source: Source, room: &mut [u8]) -> Input {
+pub fn read(source: Source, program: &[u8], room: &mut [u8]) -> Input {
     if source.is_open {
-        return read_open(source, room);
+        return read_open(source, program, room);
     }
-    let opened = open_next(source);
+    let opened = open_next(source, program);
     Input {
         source: opened,
         got: 0,
+    }
+}
+
+// Reads on behind the bytes at hand.
+fn read_more(source: Source, program: &[u8], room: &mut [u8], have: usize) -> Input {
+    let at = within(have, room);
+    let more = read(source, program, &mut room[at..]);
+    let after = more.source;
+    Input {
+        source: after,
+        got: std::num::wrapping_add_usize(at, more.got),
+    }
+}
+
+// Reads until the room is full or the input ends. A proved loop has to end, and nothing says that a file does: it counts its turns
+// down, from a number that no run uses up.
+pub fn fill(source: Source, program: &[u8], room: &mut [u8]) -> Input {
+    let mut source = source;
+    let mut got = 0;
+    let mut turns = u64::MAX;
+    while turns > 0 && source.goes_on && got < room.len() {
+        let more = read_more(source, program, room, got);
+        let after = more.source;
+        source = after;
+        got = more.got;
+        turns -= 1;
+    }
+    Input {
+        source: source,
+        got: within(got, room),
     }
 }

@@ -1,12 +1,12 @@
--- `lpmag::said::within` meets its contract.
+-- `programs::said::within` meets its contract.
 -- Assumes nothing.
 use mathlib.Core.Path.{sym}
 use lib.ListN.{length}
 use lib.Seq.{length-take-le}
 use denote.Ref.{now}
 use native.Mathlib.Omega.{arith}
-use Rattle.lpmag.proofs.said.within.Statement.{statement}
-use Rattle.lpmag.proofs.said.within.Tie as tie
+use Rattle.programs.proofs.said.within.Statement.{statement}
+use Rattle.programs.proofs.said.within.Tie as tie
 
 returns : tie.Need-returns
 returns c = (c .if1 .taken, sym (length-take-le (c .before .args .n) (now (c .before .args .bytes)) (c .if1 .taken)))
