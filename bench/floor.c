@@ -3,7 +3,7 @@
  *   floor [FILE] */
 #include "input.h"
 
-#include "../compare/text.h"
+#include "../compare/base/text.h"
 
 int main(int argc, char **argv)
 {

@@ -1,6 +1,6 @@
 #include "input.h"
 
-#include "../compare/text.h"
+#include "../compare/base/text.h"
 
 #include <stdbool.h>
 #include <system.h>

@@ -1,5 +1,5 @@
 /* The input of the whole programs beside this: one file or standard input, in reads of
- * the size that compare/list.c has. */
+ * the size that compare/second/list.c has. */
 #ifndef INPUT_H
 #define INPUT_H
 

@@ -3,9 +3,9 @@
 #include "laying_c.h"
 #include "timing.h"
 
-#include "../compare/random.h"
-#include "../compare/second_electrons.h"
-#include "../compare/text.h"
+#include "../compare/base/random.h"
+#include "../compare/base/text.h"
+#include "../compare/second/electrons.h"
 #include "../include/lpmag.h"
 
 #include <system.h>

@@ -3,7 +3,7 @@
 #include "input.h"
 #include "step_c.h"
 
-#include "../compare/text.h"
+#include "../compare/base/text.h"
 
 static struct lpmag_state state;
 static _Alignas(64) uint8_t open_cells[LPMAG_CELLS], finished_cells[LPMAG_CELLS];

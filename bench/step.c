@@ -3,10 +3,10 @@
 #include "step_c.h"
 #include "timing.h"
 
-#include "../compare/generate.h"
-#include "../compare/random.h"
-#include "../compare/second_reader.h"
-#include "../compare/text.h"
+#include "../compare/base/random.h"
+#include "../compare/base/text.h"
+#include "../compare/input/generate.h"
+#include "../compare/second/reader.h"
 
 #include <stdbool.h>
 #include <system.h>
@@ -109,7 +109,9 @@ struct functions {
 
 static const struct functions first = {lpmag_step, lpmag_feed};
 static const struct functions in_c = {step_c, feed_c};
-static const struct functions second = {second_step, second_feed};
+
+/* Its structs are those of include/lpmag.h under names of their own. */
+static const struct functions second = {(step *)second_step, (feed *)second_feed};
 
 static uint8_t call_step(const struct functions *of, struct lent *lent, const uint8_t *record, size_t length)
 {

@@ -1,6 +1,6 @@
 #include "timing.h"
 
-#include "../compare/text.h"
+#include "../compare/base/text.h"
 
 #include <system.h>
 
