@@ -153,3 +153,12 @@ void expect_bytes(struct drive *drive, const struct question *question, const ch
     print_hex_line("but it has to be: ", expected, length);
     stop();
 }
+
+void compare_answers(struct drive *drive, const struct question *question, const struct rooms *rooms,
+                     uint8_t first, uint8_t second, uint8_t expected)
+{
+    same_answer(drive, question, first, second);
+    same_rooms(drive, question, rooms, first != LPMAG_OK);
+    expect_answer(drive, question, first, expected);
+    drive->answers[question->function][first]++;
+}

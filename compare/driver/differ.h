@@ -33,4 +33,8 @@ void expect_range(struct drive *drive, const struct question *question, const st
 void expect_bytes(struct drive *drive, const struct question *question, const char *what, const void *found,
                   const void *expected, size_t length);
 
+/* All of it for a question that answers LPMAG_OK or gives no value, whose answers are counted. */
+void compare_answers(struct drive *drive, const struct question *question, const struct rooms *rooms,
+                     uint8_t first, uint8_t second, uint8_t expected);
+
 #endif

@@ -75,6 +75,9 @@ struct ranges {
 
 void ranges_make(struct ranges *ranges, struct random *random);
 
+/* What to lend of ranges->first or ranges->second. */
+#define RANGE_OF(numbers) &(numbers)[LOW], &(numbers)[HIGH]
+
 /* As rooms_wrong. */
 const char *ranges_wrong(const struct ranges *ranges, bool kept);
 

@@ -14,11 +14,35 @@ static void print_met(const char *what, uint64_t times)
         fail(1, "compare: the last of these was never met, so nothing is known about it");
 }
 
+static void find_rarer(uint64_t *least, uint64_t times)
+{
+    *least = times < *least ? times : *least;
+}
+
 static uint64_t rarest(const uint64_t *times, size_t length)
 {
-    uint64_t least = times[0];
-    for (size_t i = 1; i < length; i++)
-        least = times[i] < least ? times[i] : least;
+    uint64_t least = UINT64_MAX;
+    for (size_t i = 0; i < length; i++)
+        find_rarer(&least, times[i]);
+    return least;
+}
+
+/* Of a square, the rarest pair of a last type and one from so much above it on, or of one at most as
+ * high. */
+static uint64_t rarest_above(size_t types, const uint64_t (*times)[types], size_t above)
+{
+    uint64_t least = UINT64_MAX;
+    for (size_t last = 0; last < types; last++)
+        for (size_t type = last + above; type < types; type++)
+            find_rarer(&least, times[last][type]);
+    return least;
+}
+
+static uint64_t rarest_not_above(size_t types, const uint64_t (*times)[types])
+{
+    uint64_t least = UINT64_MAX;
+    for (size_t last = 0; last < types; last++)
+        find_rarer(&least, rarest(times[last], last + 1));
     return least;
 }
 
@@ -75,30 +99,11 @@ static void print_electrons_met(const struct drive *drive)
     print_met("anodes and phases of no such bin", drive->angles[LPMAG_NO_SUCH_BIN]);
 }
 
-/* The rarest pair of a last type and a type at least so much above it. */
-static uint64_t rarest_above(const uint64_t (*times)[36], size_t above)
-{
-    uint64_t least = UINT64_MAX;
-    for (size_t last = 0; last < 36; last++)
-        for (size_t type = last + above; type < 36; type++)
-            least = times[last][type] < least ? times[last][type] : least;
-    return least;
-}
-
-static uint64_t rarest_not_above(const uint64_t (*times)[36])
-{
-    uint64_t least = UINT64_MAX;
-    for (size_t last = 0; last < 36; last++)
-        for (size_t type = 0; type <= last; type++)
-            least = times[last][type] < least ? times[last][type] : least;
-    return least;
-}
-
-static uint64_t rarest_taken(const uint64_t (*times)[16])
+static uint64_t rarest_taken(const struct drive *drive)
 {
     uint64_t least = UINT64_MAX;
     for (size_t type = 0; type < 36; type++)
-        least = rarest(times[type], 16) < least ? rarest(times[type], 16) : least;
+        find_rarer(&least, rarest(drive->taken[type], 16));
     return least;
 }
 
@@ -131,17 +136,6 @@ static void print_closed_met(const struct drive *drive)
                 }
 }
 
-/* The rarest pair of a last packet and one above it, or of one that isn't. */
-static uint64_t rarest_packets(const uint64_t (*times)[PACKETS], bool above)
-{
-    uint64_t least = UINT64_MAX;
-    for (size_t last = 0; last < PACKETS; last++)
-        for (size_t next = 0; next < PACKETS; next++)
-            if ((next > last) == above)
-                least = times[last][next] < least ? times[last][next] : least;
-    return least;
-}
-
 /* Of the burst packets that are none of a snapshot, with one open or not: the rarest, with bit 6 or
  * without. */
 static uint64_t rarest_fill(const struct drive *drive, bool open, bool bit_6)
@@ -149,7 +143,7 @@ static uint64_t rarest_fill(const struct drive *drive, bool open, bool bit_6)
     uint64_t least = UINT64_MAX;
     for (size_t type = 56; type < TYPE_NUMBERS; type++)
         if (is_burst_type((uint8_t)type))
-            least = drive->fill_bits[type][open][bit_6] < least ? drive->fill_bits[type][open][bit_6] : least;
+            find_rarer(&least, drive->fill_bits[type][open][bit_6]);
     return least;
 }
 
@@ -157,7 +151,7 @@ static uint64_t rarest_burst(const uint64_t *times)
 {
     uint64_t least = UINT64_MAX;
     for (uint32_t which = 0; which < BURST_TYPES; which++)
-        least = times[burst_type(which)] < least ? times[burst_type(which)] : least;
+        find_rarer(&least, times[burst_type(which)]);
     return least;
 }
 
@@ -178,10 +172,10 @@ static void print_bursts_met(const struct drive *drive)
             if (together == IN_ONE_FRAME && (since == CUT_SINCE || since == BOTH_BITS))
                 continue; /* nothing comes between the two packets of a frame */
             print_text(what[since]);
-            print_met(where[together], rarest_packets(drive->above[together][since], true));
+            print_met(where[together], rarest_above(PACKETS, drive->above[together][since], 1));
         }
         print_text("packets of a type not above the last, ");
-        print_met(where[together], rarest_packets(drive->packets_not_above[together], false));
+        print_met(where[together], rarest_not_above(PACKETS, drive->packets_not_above[together]));
     }
     print_met("packets with no snapshot open", drive->packets_alone);
     for (size_t open = 0; open < 2; open++)
@@ -197,7 +191,7 @@ static void print_bursts_met(const struct drive *drive)
     for (size_t which = 0; which < 2; which++) {
         uint64_t least = UINT64_MAX;
         for (size_t range = 0; range < 8; range++)
-            least = drive->burst_ranges[range][which] < least ? drive->burst_ranges[range][which] : least;
+            find_rarer(&least, drive->burst_ranges[range][which]);
         print_text(which == 0 ? "seconds of MAG in packet one" : "seconds of MAG in packet two");
         print_met(", of the rarest range", least);
         print_text(which == 0 ? "packets one" : "packets two");
@@ -217,13 +211,14 @@ static void print_joining_met(const struct drive *drive)
     print_met("frames that join", drive->fates[LPMAG_JOINS]);
     print_met("frames that do neither", drive->fates[LPMAG_NEITHER]);
     for (enum edge edge = 0; edge < EDGES; edge++)
-        print_met(at[edge], rarest_above(drive->edges[edge], edge == ONE_BELOW ? 2 : 1));
-    print_met("frames of a type not above the last, of the rarest types", rarest_not_above(drive->not_above));
+        print_met(at[edge], rarest_above(36, drive->edges[edge], edge == ONE_BELOW ? 2 : 1));
+    print_met("frames of a type not above the last, of the rarest types",
+              rarest_not_above(36, drive->not_above));
     print_met("frames of a higher type that open after other frames", drive->past_others[LPMAG_OPENS]);
     print_met("frames that join after other frames", drive->past_others[LPMAG_JOINS]);
     print_met("other frames with no accumulation open", drive->others_counted[false]);
     print_met("other frames with one open", drive->others_counted[true]);
-    print_met("real-time frames taken, of the rarest type and slot", rarest_taken(drive->taken));
+    print_met("real-time frames taken, of the rarest type and slot", rarest_taken(drive));
 }
 
 static void print_clock_met(const struct drive *drive)
@@ -245,6 +240,13 @@ static void print_clock_met(const struct drive *drive)
     print_met("records refused with 12 that would pass the last turn", drive->late_past_turns);
 }
 
+/* Of one of the three functions. */
+static void print_call_met(enum call call, const char *what, uint64_t times)
+{
+    print_text(call_names[call]);
+    print_met(what, times);
+}
+
 static void print_broken_met(const struct drive *drive, enum call call)
 {
     for (enum clause clause = 0; clause < CLAUSES; clause++) {
@@ -264,20 +266,16 @@ static void print_broken_met(const struct drive *drive, enum call call)
 
 static void print_structs_met(const struct drive *drive, enum call call)
 {
-    print_text(call_names[call]);
-    print_met(" with the fresh state", drive->fresh[call]);
-    print_text(call_names[call]);
-    print_met(" with the rarest flag byte in the fresh state", rarest(drive->flags[call][true], 256));
-    print_text(call_names[call]);
-    print_met(" with the rarest flag byte in another", rarest(drive->flags[call][false], 256));
-    print_text(call_names[call]);
-    print_met(" with the rarest cut mark and no snapshot open", rarest(drive->cuts[call][false], 256));
-    print_text(call_names[call]);
-    print_met(" with the rarest cut mark of an open snapshot", rarest(drive->cuts[call][true], 256));
-    print_text(call_names[call]);
-    print_met(" with the rarest bit of the spare fields", rarest(drive->spares[call], SPARE_BITS));
-    print_text(call_names[call]);
-    print_met(" with every field known and different", drive->structs[call]);
+    print_call_met(call, " with the fresh state", drive->fresh[call]);
+    print_call_met(call, " with the rarest flag byte in the fresh state",
+                   rarest(drive->flags[call][true], 256));
+    print_call_met(call, " with the rarest flag byte in another", rarest(drive->flags[call][false], 256));
+    print_call_met(call, " with the rarest cut mark and no snapshot open",
+                   rarest(drive->cuts[call][false], 256));
+    print_call_met(call, " with the rarest cut mark of an open snapshot",
+                   rarest(drive->cuts[call][true], 256));
+    print_call_met(call, " with the rarest bit of the spare fields", rarest(drive->spares[call], SPARE_BITS));
+    print_call_met(call, " with every field known and different", drive->structs[call]);
 }
 
 /* A record of feed has its length, so rule 2 is never met there, and rule 1 is feed's own
@@ -356,10 +354,8 @@ static void print_reader_met(const struct drive *drive)
 static uint64_t rarest_second(const struct drive *drive)
 {
     uint64_t least = UINT64_MAX;
-    for (size_t code = 0; code < 256; code++) {
-        uint64_t times = drive->second_codes[is_burst_type(code % 64)][code];
-        least = times < least ? times : least;
-    }
+    for (size_t code = 0; code < 256; code++)
+        find_rarer(&least, drive->second_codes[is_burst_type(code % 64)][code]);
     return least;
 }
 

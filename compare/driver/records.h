@@ -14,8 +14,10 @@
 /* 02, request 1: a record's own count is below ROUND. */
 #define ROUND ((uint64_t)1 << 24)
 
-/* The types of real-time frames are below this. */
+/* The types of real-time frames are below this; and the marks of all types below a number. */
 enum { TYPES = 36 };
+#define MARKS_OF(types) (((uint64_t)1 << (types)) - 1)
+#define ALL_HELD MARKS_OF(TYPES)
 
 /* The fields of a record, from the content it was made of. */
 struct lpmag_fields fields_of(const struct content *content);

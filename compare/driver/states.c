@@ -117,6 +117,22 @@ struct lpmag_state any_state(struct random *random, bool accumulation, bool majo
     return state;
 }
 
+struct lpmag_state any_good_state(struct random *random)
+{
+    bool accumulation = coin(random);
+    bool major = coin(random);
+    return any_state(random, accumulation, major);
+}
+
+struct lpmag_state any_state_with_a_next(struct random *random)
+{
+    struct lpmag_state state;
+    do
+        state = any_good_state(random);
+    while (state.last == COUNTS - 1);
+    return state;
+}
+
 /* ---- states that break a clause --------------------------------------- */
 
 static const uint64_t past_counts[] = {
@@ -126,41 +142,30 @@ enum { PAST_COUNTS = sizeof past_counts / sizeof past_counts[0] };
 
 uint32_t break_forms(enum clause clause)
 {
-    switch (clause) {
-    case LAST_ACCEPTED_BELOW:
-        return PAST_COUNTS;
-    case FRAMES_AMONG_36:
-        return 2 * (64 - TYPES);
-    case PACKETS_AMONG_20:
-        return 2 * (32 - PACKETS);
-    case FLAG_IS_0_OR_1:
-    case CUT_IS_0_OR_1:
-    case HIGHEST_SLOT:
-    case RANGES_TO_7:
-    case RANGES_NOT_HELD:
-    case WORDS_NOT_HELD:
-    case NO_SLOT_HELD:
-        return 4;
-    case SPARES_ARE_0:
-        return 5;
-    case HIGHEST_IS_LAST_TYPE:
-    case FIRST_AND_FRAMES:
-    case SNAPSHOT_BEFORE_LAST:
-    case NO_SNAPSHOT_OPEN:
-        return 6;
-    case MAJOR_NUMBER:
-        return 7;
-    case HIGHEST_IS_LAST_PACKET:
-    case LAST_AND_OTHERS:
-    case NO_ACCUMULATION_OPEN:
-        return 8;
-    case NOTHING_ACCEPTED:
-        return 10;
-    case MAG_AMONG_SLOTS:
-        return 1;
-    default:
-        return 0;
-    }
+    static const uint32_t forms[CLAUSES] = {
+        [FLAG_IS_0_OR_1] = 4,
+        [CUT_IS_0_OR_1] = 4,
+        [SPARES_ARE_0] = 5,
+        [LAST_ACCEPTED_BELOW] = PAST_COUNTS,
+        [FRAMES_AMONG_36] = 2 * (64 - TYPES),
+        [HIGHEST_IS_LAST_TYPE] = 6,
+        [FIRST_AND_FRAMES] = 6,
+        [LAST_AND_OTHERS] = 8,
+        [MAG_AMONG_SLOTS] = 1,
+        [MAJOR_NUMBER] = 7,
+        [HIGHEST_SLOT] = 4,
+        [RANGES_TO_7] = 4,
+        [RANGES_NOT_HELD] = 4,
+        [WORDS_NOT_HELD] = 4,
+        [NO_ACCUMULATION_OPEN] = 8,
+        [NO_SLOT_HELD] = 4,
+        [NOTHING_ACCEPTED] = 10,
+        [PACKETS_AMONG_20] = 2 * (32 - PACKETS),
+        [HIGHEST_IS_LAST_PACKET] = 8,
+        [SNAPSHOT_BEFORE_LAST] = 6,
+        [NO_SNAPSHOT_OPEN] = 6,
+    };
+    return forms[clause];
 }
 
 /* The last accepted count moves, and the open major frame with it. A snapshot that is open stays. */
@@ -422,7 +427,6 @@ static void break_nothing(struct random *random, struct lpmag_state *state, uint
 static void break_clause(struct random *random, struct lpmag_state *state, enum clause clause, uint32_t form)
 {
     static const uint8_t flags[4] = {2, 3, 128, 255};
-    static const uint8_t cuts[4] = {2, 3, 128, 255};
     static const uint8_t ranges[4] = {8, 16, 128, 255};
     static const uint8_t ranges_not_held[4] = {1, 7, 8, 255};
     static const uint16_t words[4] = {0x0001, 0x0100, 0x8000, 0xFFFF};
@@ -433,7 +437,7 @@ static void break_clause(struct random *random, struct lpmag_state *state, enum 
         state->any = flags[form];
         break;
     case CUT_IS_0_OR_1:
-        state->snapshot.cut = cuts[form];
+        state->snapshot.cut = flags[form];
         break;
     case SPARES_ARE_0:
         break_spares(random, state, form);
@@ -502,7 +506,7 @@ static void break_clause(struct random *random, struct lpmag_state *state, enum 
 struct lpmag_state broken_state(struct random *random, enum clause clause, uint32_t form)
 {
     for (unsigned tries = 0; tries < 100000; tries++) {
-        struct lpmag_state state = any_state(random, coin(random), coin(random));
+        struct lpmag_state state = any_good_state(random);
         break_clause(random, &state, clause, form);
         if (clauses_broken(&state) == 1u << clause)
             return state;

@@ -8,6 +8,11 @@
 /* A state that keeps the list, something having been accepted. A snapshot is open in half of them. */
 struct lpmag_state any_state(struct random *random, bool accumulation, bool major);
 
+/* Likewise, an accumulation and a major frame open or not; and one that a record can follow, being not
+ * at the last count of all. */
+struct lpmag_state any_good_state(struct random *random);
+struct lpmag_state any_state_with_a_next(struct random *random);
+
 /* The number of forms in which a clause can be broken alone; 0 for the three that
  * can't be, since another count bounds theirs. */
 uint32_t break_forms(enum clause clause);

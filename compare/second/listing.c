@@ -29,7 +29,7 @@ static void print_major(const struct second_major *closed)
     for (size_t slot = 0; slot < SECOND_SLOTS; slot++)
         if (major.mag[slot])
             samples += SECOND_SAMPLES;
-    print_line("major", SECOND_SLOTS * major.number, second_slots_held(&major), samples);
+    print_line("major", SECOND_SLOTS * major.number, SECOND_HELD(&major), samples);
 }
 
 /* Each frame or packet held fills as many cells as it has bytes. */

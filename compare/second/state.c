@@ -6,6 +6,8 @@
 #include "electrons.h"
 #include "snapshot.h"
 
+#include <string.h>
+
 /* ---- counts ----------------------------------------------------------- */
 
 uint64_t second_full_count(uint64_t turn, uint32_t own_count)
@@ -27,7 +29,7 @@ static void read_marks(uint64_t number, bool *marks, size_t count)
         marks[i] = number % 2 == 1;
 }
 
-static uint64_t number_of(const bool *marks, size_t count)
+uint64_t second_marks_number(const bool *marks, size_t count)
 {
     uint64_t number = 0;
     for (size_t i = count; i > 0; i--)
@@ -35,37 +37,23 @@ static uint64_t number_of(const bool *marks, size_t count)
     return number;
 }
 
-uint64_t second_lent_held(const struct accumulation *accumulation)
-{
-    return number_of(accumulation->held, SECOND_FRAME_MARKS);
-}
-
-uint32_t second_lent_packets(const struct snapshot *snapshot)
-{
-    return (uint32_t)number_of(snapshot->held, SECOND_PACKET_MARKS);
-}
-
 struct major_frame second_read_major(const struct second_major *lent)
 {
     struct major_frame major = {.number = lent->number};
     read_marks(lent->slots, major.held, SECOND_SLOTS);
     read_marks(lent->mag_slots, major.mag, SECOND_SLOTS);
-    for (size_t slot = 0; slot < SECOND_SLOTS; slot++) {
-        major.ranges[slot] = lent->ranges[slot];
-        major.words[slot] = lent->words[slot];
-    }
+    memcpy(major.ranges, lent->ranges, sizeof major.ranges);
+    memcpy(major.words, lent->words, sizeof major.words);
     return major;
 }
 
 struct second_major second_lent_major(const struct major_frame *major)
 {
     struct second_major lent = {.number = major->number,
-                                .slots = (uint16_t)number_of(major->held, SECOND_SLOTS),
-                                .mag_slots = (uint16_t)number_of(major->mag, SECOND_SLOTS)};
-    for (size_t slot = 0; slot < SECOND_SLOTS; slot++) {
-        lent.ranges[slot] = major->ranges[slot];
-        lent.words[slot] = major->words[slot];
-    }
+                                .slots = (uint16_t)second_marks_number(major->held, SECOND_SLOTS),
+                                .mag_slots = (uint16_t)second_marks_number(major->mag, SECOND_SLOTS)};
+    memcpy(lent.ranges, major->ranges, sizeof lent.ranges);
+    memcpy(lent.words, major->words, sizeof lent.words);
     return lent;
 }
 
@@ -94,56 +82,25 @@ struct second_state second_lent_state(const struct state *state)
     return (struct second_state){.last = second_last_accepted(state),
                                  .any = state->accepted ? 1 : 0,
                                  .accumulation = {.first = accumulation->first_count,
-                                                  .held = second_lent_held(accumulation),
+                                                  .held = SECOND_HELD_NUMBER(accumulation),
                                                   .last_count = accumulation->last_count,
                                                   .others = accumulation->others,
                                                   .last_type = accumulation->last_type},
                                  .major = second_lent_major(&state->major),
                                  .snapshot = {.first = snapshot->first_count,
-                                              .held = second_lent_packets(snapshot),
+                                              .held = (uint32_t)SECOND_HELD_NUMBER(snapshot),
                                               .last_type = snapshot->last_type,
                                               .cut = snapshot->cut ? 1 : 0}};
 }
 
-/* ---- what is no state ------------------------------------------------- */
-
-/* The header, refusal 1: "a flag byte other than 0 and 1, a spare field other than 0" */
-static bool flags_right(const struct second_state *lent)
-{
-    return lent->any <= 1 && lent->snapshot.cut <= 1;
-}
-
-static bool spares_zero(const struct second_state *lent)
-{
-    const struct second_accumulation *accumulation = &lent->accumulation;
-    return lent->spare8 == 0 && lent->spare16 == 0 && lent->spare32 == 0 && accumulation->spare8 == 0 &&
-           accumulation->spare16 == 0 && accumulation->spare32 == 0 && lent->major.spare32 == 0 &&
-           lent->snapshot.spare16 == 0;
-}
-
 /* ---- 01's list -------------------------------------------------------- */
 
-static size_t count_marks(const bool *marks, size_t count)
+size_t second_marks_set(const bool *marks, size_t count)
 {
     size_t set = 0;
     for (size_t i = 0; i < count; i++)
         set += marks[i];
     return set;
-}
-
-size_t second_frames_held(const struct accumulation *accumulation)
-{
-    return count_marks(accumulation->held, SECOND_FRAME_MARKS);
-}
-
-size_t second_slots_held(const struct major_frame *major)
-{
-    return count_marks(major->held, SECOND_SLOTS);
-}
-
-size_t second_packets_held(const struct snapshot *snapshot)
-{
-    return count_marks(snapshot->held, SECOND_PACKET_MARKS);
 }
 
 /* The number of the highest mark that is set, and one more; 0 where none is. */
@@ -180,7 +137,7 @@ static bool frames_right(const struct accumulation *open)
 /* "first count plus frames held minus 1 is at most the last real-time count" */
 static bool frames_fit(const struct accumulation *open)
 {
-    size_t frames = second_frames_held(open);
+    size_t frames = SECOND_HELD(open);
     return frames == 0 || sum_at_most(open->first_count, frames - 1, open->last_count);
 }
 
@@ -228,11 +185,10 @@ static bool ranges_and_words_right(const struct major_frame *open)
 static bool closed_are_zero(const struct state *state)
 {
     const struct accumulation *accumulation = &state->accumulation;
-    if (second_frames_held(accumulation) == 0 &&
-        (accumulation->first_count != 0 || accumulation->last_type != 0 || accumulation->last_count != 0 ||
-         accumulation->others != 0))
+    if (SECOND_HELD(accumulation) == 0 && (accumulation->first_count != 0 || accumulation->last_type != 0 ||
+                                           accumulation->last_count != 0 || accumulation->others != 0))
         return false;
-    return second_slots_held(&state->major) != 0 || state->major.number == 0;
+    return SECOND_HELD(&state->major) != 0 || state->major.number == 0;
 }
 
 /* 02, request 2: "a snapshot open with [...] its highest not the last type or its first count above
@@ -247,31 +203,38 @@ static bool snapshot_right(const struct state *state)
            snapshot->first_count <= second_last_accepted(state);
 }
 
+static bool same(const struct second_state *one, const struct second_state *other)
+{
+    return memcmp(one, other, sizeof *one) == 0;
+}
+
 /* "Until something is accepted, all is 0." */
 static bool all_zero(const struct second_state *lent)
 {
-    const uint8_t *bytes = (const uint8_t *)lent;
-    for (size_t i = 0; i < sizeof *lent; i++)
-        if (bytes[i] != 0)
-            return false;
-    return true;
+    static const struct second_state fresh;
+    return same(lent, &fresh);
+}
+
+/* The header, refusal 1: "a flag byte other than 0 and 1, a spare field other than 0". The marks can't
+ * say either, so that what is lent comes out another than it came in. */
+static bool said_by_marks(const struct second_state *lent, const struct state *state)
+{
+    struct second_state again = second_lent_state(state);
+    return same(lent, &again);
 }
 
 /* That an open accumulation holds a frame, an open major frame a slot and an open snapshot a packet
  * is what "open" means in the struct. */
 bool second_read_state(const struct second_state *lent, struct state *state)
 {
-    if (!flags_right(lent) || !spares_zero(lent))
-        return false;
-
     *state = (struct state){.accepted = lent->any == 1,
                             .turn = lent->last / SECOND_COUNTS_OF_A_TURN,
                             .own_count = (uint32_t)(lent->last % SECOND_COUNTS_OF_A_TURN),
                             .accumulation = read_accumulation(&lent->accumulation),
                             .major = second_read_major(&lent->major),
                             .snapshot = read_snapshot(&lent->snapshot)};
-    return counts_below(state) && frames_right(&state->accumulation) && frames_fit(&state->accumulation) &&
-           others_fit(state) && mag_slots_right(&state->major) && last_slot_right(state) &&
-           ranges_and_words_right(&state->major) && closed_are_zero(state) && snapshot_right(state) &&
-           (state->accepted || all_zero(lent));
+    return said_by_marks(lent, state) && counts_below(state) && frames_right(&state->accumulation) &&
+           frames_fit(&state->accumulation) && others_fit(state) && mag_slots_right(&state->major) &&
+           last_slot_right(state) && ranges_and_words_right(&state->major) && closed_are_zero(state) &&
+           snapshot_right(state) && (state->accepted || all_zero(lent));
 }

@@ -58,9 +58,13 @@ uint64_t second_full_count(uint64_t turn, uint32_t own_count);
 /* The full count of the last accepted record. */
 uint64_t second_last_accepted(const struct state *state);
 
-size_t second_frames_held(const struct accumulation *accumulation);
-size_t second_slots_held(const struct major_frame *major);
-size_t second_packets_held(const struct snapshot *snapshot);
+/* How many marks are set; and how many frames, slots or packets one of the three holds. */
+size_t second_marks_set(const bool *marks, size_t count);
+#define SECOND_HELD(open) second_marks_set((open)->held, sizeof(open)->held)
+
+/* The number that has the bit of weight 2^i for mark i; and that of what one of the three holds. */
+uint64_t second_marks_number(const bool *marks, size_t count);
+#define SECOND_HELD_NUMBER(open) second_marks_number((open)->held, sizeof(open)->held)
 
 /* Reads what was lent as a state; false when it is none, or breaks the list. */
 bool second_read_state(const struct second_state *lent, struct state *state);
@@ -69,11 +73,5 @@ struct second_state second_lent_state(const struct state *state);
 /* A major frame, in which anything may stand. */
 struct major_frame second_read_major(const struct second_major *lent);
 struct second_major second_lent_major(const struct major_frame *major);
-
-/* The number that has the bit of weight 2^u for a held type u. */
-uint64_t second_lent_held(const struct accumulation *accumulation);
-
-/* The number that has the bit of weight 2^(t - 36) for a held packet of type t. */
-uint32_t second_lent_packets(const struct snapshot *snapshot);
 
 #endif

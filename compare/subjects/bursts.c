@@ -328,10 +328,7 @@ static void compare_second_codes(struct drive *drive)
     for (uint32_t which = 0; which < BURST_TYPES; which++)
         for (unsigned byte = 0; byte < 256; byte++)
             for (unsigned bits = 0; bits < 4; bits++) {
-                struct lpmag_state state;
-                do
-                    state = any_state(random, random_once_in(random, 2), random_once_in(random, 2));
-                while (state.last == COUNTS - 1);
+                struct lpmag_state state = any_state_with_a_next(random);
                 uint8_t code = (uint8_t)(bits << 6) | burst_type(which);
                 input_make_coded(random, &input, state.last + 1, code, (uint8_t)byte);
                 input.record[LPMAG_PACKET_AT + 85] = (uint8_t)byte;

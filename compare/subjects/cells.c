@@ -1,6 +1,6 @@
 /* The cells of an accumulation: frames laid into it, and its raw bytes. */
 #include "base/text.h"
-#include "driver/electrons.h"
+#include "driver/asked.h"
 #include "second/electrons.h"
 #include "subjects.h"
 
@@ -120,41 +120,34 @@ static void compare_accumulation(struct drive *drive)
 
 /* ---- raw cells -------------------------------------------------------- */
 
-static void compare_cell(struct drive *drive, const uint8_t *cells, size_t length, uint64_t held, size_t cell)
+static void compare_cell(struct drive *drive, const struct asked *asked, size_t cell)
 {
-    struct question question = {CELL, cells, length, {{"held", held}, {"cell", cell}}};
+    struct question question = {CELL, asked->bytes, asked->length, {{"held", asked->held}, {"cell", cell}}};
     struct rooms rooms;
     rooms_make(&rooms, &drive->random, 1);
-    uint8_t first = lpmag_cell(cells, length, held, cell, room_of_bytes(&rooms, &rooms.first));
-    uint8_t second = second_cell(cells, length, held, cell, room_of_bytes(&rooms, &rooms.second));
-    same_answer(drive, &question, first, second);
-    same_rooms(drive, &question, &rooms, first != 0);
-    expect_answer(drive, &question, first, expected_answer(length, held, cell));
-    drive->answers[CELL][first]++;
-    if (first == 0) {
-        expect_bytes(drive, &question, "the byte isn't the cell's", room_of_bytes(&rooms, &rooms.first),
-                     cells + cell, 1);
+    uint8_t first = lpmag_cell(ASKED(asked), cell, room_of_bytes(&rooms, &rooms.first));
+    uint8_t second = second_cell(ASKED(asked), cell, room_of_bytes(&rooms, &rooms.second));
+    compare_byte_at(drive, &question, asked, &rooms, first, second, cell);
+    if (first == LPMAG_OK)
         drive->cells_given[cell]++;
-    } else if (first == LPMAG_ABSENT) {
+    else if (first == LPMAG_ABSENT)
         drive->cells_absent[cell]++;
-    }
 }
 
 static void compare_cells(struct drive *drive)
 {
     static size_t numbers[MOST_NUMBERS];
     size_t count = make_numbers(3100, numbers);
-    uint64_t marks[MARKS];
+    uint64_t marks[MOST_MARKS];
     uint8_t made[LPMAG_CELLS];
     begin(drive, "raw cells at every place and past the end, with every held mark");
     for (unsigned i = 0; i < 2; i++) {
-        make_marks(&drive->random, marks);
-        for (size_t j = 0; j < MARKS; j++) {
-            random_fill(&drive->random, made, sizeof made);
-            const uint8_t *cells = lend_bytes(&drive->random, made, sizeof made);
+        make_marks(&drive->random, &accumulation, marks);
+        for (size_t j = 0; j < accumulation.marks; j++) {
+            struct asked asked = lend_any(drive, &accumulation, made, marks[j]);
             for (size_t k = 0; k < count; k++)
-                compare_cell(drive, cells, sizeof made, marks[j], numbers[k]);
-            expect_cells(drive, CELL, cells, made, sizeof made);
+                compare_cell(drive, &asked, numbers[k]);
+            expect_unchanged(drive, CELL, &asked);
         }
     }
 }
@@ -162,17 +155,17 @@ static void compare_cells(struct drive *drive)
 static void compare_cells_of_sizes(struct drive *drive)
 {
     static const size_t lengths[] = {0, 1, 2987, 2988, 2996, 2997, 2998, 4096};
-    uint64_t marks[MARKS];
+    uint64_t marks[MOST_MARKS];
     uint8_t made[4096];
     begin(drive, "raw cells of accumulations of many sizes");
-    make_marks(&drive->random, marks);
+    make_marks(&drive->random, &accumulation, marks);
     random_fill(&drive->random, made, sizeof made);
     for (size_t i = 0; i < sizeof lengths / sizeof lengths[0]; i++)
-        for (size_t j = 0; j < MARKS; j++) {
-            const uint8_t *cells = lend_bytes(&drive->random, made, lengths[i]);
+        for (size_t j = 0; j < accumulation.marks; j++) {
+            struct asked asked = lend_asked(drive, &accumulation, made, lengths[i], marks[j]);
             for (size_t cell = 0; cell <= CELLS; cell += 1 + random_below(&drive->random, 200))
-                compare_cell(drive, cells, lengths[i], marks[j], cell);
-            expect_cells(drive, CELL, cells, made, lengths[i]);
+                compare_cell(drive, &asked, cell);
+            expect_unchanged(drive, CELL, &asked);
         }
 }
 

@@ -1,6 +1,6 @@
 /* Counts and angles: the range of a code, the sum of two ranges, the angle of an
  * anode at a spin phase. */
-#include "driver/electrons.h"
+#include "driver/asked.h"
 #include "second/counts.h"
 #include "subjects.h"
 
@@ -14,8 +14,8 @@ static struct expected compare_count_range(struct drive *drive, uint8_t code, ui
     struct question question = {COUNT_RANGE, NULL, 0, {{"code", code}, {"divided by", divided_by}}};
     struct ranges ranges;
     ranges_make(&ranges, &drive->random);
-    uint8_t first = lpmag_count_range(code, divided_by, &ranges.first[LOW], &ranges.first[HIGH]);
-    uint8_t second = second_count_range(code, divided_by, &ranges.second[LOW], &ranges.second[HIGH]);
+    uint8_t first = lpmag_count_range(code, divided_by, RANGE_OF(ranges.first));
+    uint8_t second = second_count_range(code, divided_by, RANGE_OF(ranges.second));
 
     struct expected expected = {LPMAG_NO_SUCH_PLACE, 0, 0};
     if (divided_by == 1 || divided_by == 8 || divided_by == 16)
@@ -124,9 +124,8 @@ static void compare_count_sum(struct drive *drive, uint64_t low_a, uint64_t high
         COUNT_SUM, NULL, 0, {{"low a", low_a}, {"high a", high_a}, {"low b", low_b}, {"high b", high_b}}};
     struct ranges ranges;
     ranges_make(&ranges, &drive->random);
-    uint8_t first = lpmag_count_sum(low_a, high_a, low_b, high_b, &ranges.first[LOW], &ranges.first[HIGH]);
-    uint8_t second =
-        second_count_sum(low_a, high_a, low_b, high_b, &ranges.second[LOW], &ranges.second[HIGH]);
+    uint8_t first = lpmag_count_sum(low_a, high_a, low_b, high_b, RANGE_OF(ranges.first));
+    uint8_t second = second_count_sum(low_a, high_a, low_b, high_b, RANGE_OF(ranges.second));
 
     bool low_past = past_64_bits(low_a, low_b);
     bool high_past = past_64_bits(high_a, high_b);

@@ -89,7 +89,7 @@ static void compare_refused_at(struct drive *drive, unsigned rule, uint32_t form
     struct lpmag_state state;
     struct input input;
     do
-        state = any_state(random, random_once_in(random, 2), random_once_in(random, 2));
+        state = any_good_state(random);
     while (state.last > COUNTS - 8 || (rule == 14 && !stream_can_pass(state.last)));
 
     uint64_t last = state.last;

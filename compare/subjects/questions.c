@@ -1,6 +1,6 @@
 /* The questions about an accumulation: the counts of a sample, of 3D, Total and
  * Rate. */
-#include "driver/electrons.h"
+#include "driver/asked.h"
 #include "second/electrons.h"
 #include "subjects.h"
 
@@ -23,111 +23,89 @@ static bool scaled(const uint8_t *cells, size_t bin)
 }
 
 /* No such place, then absent, then scale unknown. */
-static struct expected expected_sample(const uint8_t *cells, size_t length, uint64_t held, size_t bin,
-                                       size_t number, size_t angle)
+static struct expected expected_sample(const struct asked *asked, size_t bin, size_t number, size_t angle)
 {
-    size_t cell = NO_CELL;
+    size_t cell = NO_PLACE;
     if (bin < BINS && number < layout()->samples[bin] && angle < SAMPLE_ANGLES)
         cell = layout()->sample[bin][number] + angle;
 
-    uint8_t answer = expected_answer(length, held, cell);
-    if (answer == 0 && may_be_scaled(bin) && (held & 1) == 0)
-        answer = LPMAG_SCALE_UNKNOWN;
-    if (answer != 0)
-        return (struct expected){answer, 0, 0};
-    return expected_counts(cells[cell], scaled(cells, bin) ? 8 : 1);
+    struct expected expected = expected_counts_at(asked, cell, 1);
+    if (expected.answer != LPMAG_OK || !may_be_scaled(bin))
+        return expected;
+    if ((asked->held & 1) == 0)
+        return (struct expected){LPMAG_SCALE_UNKNOWN, 0, 0};
+    return expected_counts(asked->bytes[cell], scaled(asked->bytes, bin) ? 8 : 1);
 }
 
-static void compare_sample(struct drive *drive, const uint8_t *cells, size_t length, uint64_t held,
-                           size_t bin, size_t number, size_t angle)
+static void compare_sample(struct drive *drive, const struct asked *asked, size_t bin, size_t number,
+                           size_t angle)
+{
+    struct question question = {ELECTRON_SAMPLE,
+                                asked->bytes,
+                                asked->length,
+                                {{"held", asked->held}, {"bin", bin}, {"number", number}, {"angle", angle}}};
+    struct ranges ranges;
+    ranges_make(&ranges, &drive->random);
+    uint8_t first = lpmag_electron_sample(ASKED(asked), bin, number, angle, RANGE_OF(ranges.first));
+    uint8_t second = second_electron_sample(ASKED(asked), bin, number, angle, RANGE_OF(ranges.second));
+    compare_counts(drive, &question, &ranges, first, second, expected_sample(asked, bin, number, angle));
+    if (first == LPMAG_OK)
+        (scaled(asked->bytes, bin) ? drive->samples_scaled : drive->samples_plain)[bin]++;
+}
+
+static void compare_three_d(struct drive *drive, const struct asked *asked, size_t step, size_t angle)
 {
     struct question question = {
-        ELECTRON_SAMPLE, cells, length, {{"held", held}, {"bin", bin}, {"number", number}, {"angle", angle}}};
+        THREE_D, asked->bytes, asked->length, {{"held", asked->held}, {"step", step}, {"angle", angle}}};
     struct ranges ranges;
     ranges_make(&ranges, &drive->random);
-    uint8_t first = lpmag_electron_sample(cells, length, held, bin, number, angle, &ranges.first[LOW],
-                                          &ranges.first[HIGH]);
-    uint8_t second = second_electron_sample(cells, length, held, bin, number, angle, &ranges.second[LOW],
-                                            &ranges.second[HIGH]);
-    compare_counts(drive, &question, &ranges, first, second,
-                   expected_sample(cells, length, held, bin, number, angle));
-    if (first == 0)
-        (scaled(cells, bin) ? drive->samples_scaled : drive->samples_plain)[bin]++;
+    uint8_t first = lpmag_three_d(ASKED(asked), step, angle, RANGE_OF(ranges.first));
+    uint8_t second = second_three_d(ASKED(asked), step, angle, RANGE_OF(ranges.second));
+    size_t cell = step < STEPS && angle < STEP_ANGLES ? 1668 + 88 * step + angle : NO_PLACE;
+    compare_counts(drive, &question, &ranges, first, second, expected_counts_at(asked, cell, 1));
 }
 
-/* The counts of a cell, divided by a number that is known. */
-static struct expected expected_cell(const uint8_t *cells, size_t length, uint64_t held, size_t cell,
-                                     uint64_t divided_by)
-{
-    uint8_t answer = expected_answer(length, held, cell);
-    if (answer != 0)
-        return (struct expected){answer, 0, 0};
-    return expected_counts(cells[cell], divided_by);
-}
+/* A number of the header. */
+typedef uint8_t header_question(const uint8_t *, size_t, uint64_t, uint64_t *, uint64_t *);
 
-static void compare_three_d(struct drive *drive, const uint8_t *cells, size_t length, uint64_t held,
-                            size_t step, size_t angle)
+static void compare_header(struct drive *drive, const struct asked *asked, enum function function, size_t at,
+                           header_question *ask_first, header_question *ask_second)
 {
-    struct question question = {THREE_D, cells, length, {{"held", held}, {"step", step}, {"angle", angle}}};
+    struct question question = {function, asked->bytes, asked->length, {{"held", asked->held}}};
     struct ranges ranges;
     ranges_make(&ranges, &drive->random);
-    uint8_t first =
-        lpmag_three_d(cells, length, held, step, angle, &ranges.first[LOW], &ranges.first[HIGH]);
-    uint8_t second =
-        second_three_d(cells, length, held, step, angle, &ranges.second[LOW], &ranges.second[HIGH]);
-
-    size_t cell = NO_CELL;
-    if (step < STEPS && angle < STEP_ANGLES)
-        cell = 1668 + 88 * step + angle;
-    compare_counts(drive, &question, &ranges, first, second, expected_cell(cells, length, held, cell, 1));
+    uint8_t first = ask_first(ASKED(asked), RANGE_OF(ranges.first));
+    uint8_t second = ask_second(ASKED(asked), RANGE_OF(ranges.second));
+    compare_counts(drive, &question, &ranges, first, second, expected_counts_at(asked, at, 16));
 }
 
-static void compare_total_and_rate(struct drive *drive, const uint8_t *cells, size_t length, uint64_t held)
+static void compare_total_and_rate(struct drive *drive, const struct asked *asked)
 {
-    struct question question = {TOTAL, cells, length, {{"held", held}}};
-    struct ranges ranges;
-    ranges_make(&ranges, &drive->random);
-    uint8_t first = lpmag_total(cells, length, held, &ranges.first[LOW], &ranges.first[HIGH]);
-    uint8_t second = second_total(cells, length, held, &ranges.second[LOW], &ranges.second[HIGH]);
-    compare_counts(drive, &question, &ranges, first, second,
-                   expected_cell(cells, length, held, TOTAL_AT, 16));
-
-    question.function = RATE;
-    ranges_make(&ranges, &drive->random);
-    first = lpmag_rate(cells, length, held, &ranges.first[LOW], &ranges.first[HIGH]);
-    second = second_rate(cells, length, held, &ranges.second[LOW], &ranges.second[HIGH]);
-    compare_counts(drive, &question, &ranges, first, second, expected_cell(cells, length, held, RATE_AT, 16));
+    compare_header(drive, asked, TOTAL, TOTAL_AT, lpmag_total, second_total);
+    compare_header(drive, asked, RATE, RATE_AT, lpmag_rate, second_rate);
 }
 
-/* ---- accumulations to ask about --------------------------------------- */
-
-static const uint8_t *lend_cells(struct drive *drive, const uint8_t *made)
+static struct asked lend_cells(struct drive *drive, const uint8_t *made)
 {
-    return lend_bytes(&drive->random, made, LPMAG_CELLS);
-}
-
-static const uint8_t *lend_any_cells(struct drive *drive, uint8_t *made)
-{
-    random_fill(&drive->random, made, LPMAG_CELLS);
-    return lend_cells(drive, made);
+    return lend_asked(drive, &accumulation, made, LPMAG_CELLS, ALL_HELD);
 }
 
 /* ---- samples ---------------------------------------------------------- */
 
 static void compare_every_sample(struct drive *drive)
 {
-    uint64_t marks[MARKS];
+    uint64_t marks[MOST_MARKS];
     uint8_t made[LPMAG_CELLS];
     begin(drive, "samples at every place, with every held mark");
     for (unsigned i = 0; i < 3; i++) {
-        make_marks(&drive->random, marks);
-        for (size_t j = 0; j < MARKS; j++) {
-            const uint8_t *cells = lend_any_cells(drive, made);
+        make_marks(&drive->random, &accumulation, marks);
+        for (size_t j = 0; j < accumulation.marks; j++) {
+            struct asked asked = lend_any(drive, &accumulation, made, marks[j]);
             for (size_t bin = 0; bin < BINS; bin++)
                 for (size_t number = 0; number < layout()->samples[bin]; number++)
                     for (size_t angle = 0; angle < SAMPLE_ANGLES; angle++)
-                        compare_sample(drive, cells, LPMAG_CELLS, marks[j], bin, number, angle);
-            expect_cells(drive, ELECTRON_SAMPLE, cells, made, LPMAG_CELLS);
+                        compare_sample(drive, &asked, bin, number, angle);
+            expect_unchanged(drive, ELECTRON_SAMPLE, &asked);
         }
     }
 }
@@ -149,13 +127,12 @@ static void compare_samples_past_the_end(struct drive *drive)
     uint8_t made[LPMAG_CELLS];
     begin(drive, "samples past the last bin, number or angle, and at huge ones");
     for (size_t i = 0; i < sizeof marks / sizeof marks[0]; i++) {
-        const uint8_t *cells = lend_any_cells(drive, made);
+        struct asked asked = lend_any(drive, &accumulation, made, marks[i]);
         for (size_t bin = 0; bin < bin_count; bin++)
             for (size_t number = 0; number < number_count; number++)
                 for (size_t angle = 0; angle < angle_count; angle++)
-                    compare_sample(drive, cells, LPMAG_CELLS, marks[i], bins[bin], numbers[number],
-                                   angles[angle]);
-        expect_cells(drive, ELECTRON_SAMPLE, cells, made, LPMAG_CELLS);
+                    compare_sample(drive, &asked, bins[bin], numbers[number], angles[angle]);
+        expect_unchanged(drive, ELECTRON_SAMPLE, &asked);
     }
 }
 
@@ -172,16 +149,18 @@ static void compare_every_state(struct drive *drive)
             made[PRE_SCALE] = (uint8_t)state;
             for (size_t cell = 4; cell < 1668; cell++)
                 made[cell] = (uint8_t)(PAIR * round + (cell - 4) % PAIR);
-            const uint8_t *cells = lend_cells(drive, made);
+            struct asked asked = lend_cells(drive, made);
+            struct asked without_state = asked;
+            without_state.held = ALL_HELD - 1;
             for (size_t bin = 0; bin < BINS; bin++) {
                 size_t pair = random_below(&drive->random, layout()->samples[bin] / 2u);
                 for (size_t i = 0; i < PAIR; i++) {
                     size_t number = 2 * pair + i / SAMPLE_ANGLES;
-                    compare_sample(drive, cells, LPMAG_CELLS, ALL_HELD, bin, number, i % SAMPLE_ANGLES);
-                    compare_sample(drive, cells, LPMAG_CELLS, ALL_HELD - 1, bin, number, i % SAMPLE_ANGLES);
+                    compare_sample(drive, &asked, bin, number, i % SAMPLE_ANGLES);
+                    compare_sample(drive, &without_state, bin, number, i % SAMPLE_ANGLES);
                 }
             }
-            expect_cells(drive, ELECTRON_SAMPLE, cells, made, LPMAG_CELLS);
+            expect_unchanged(drive, ELECTRON_SAMPLE, &asked);
         }
 }
 
@@ -192,13 +171,14 @@ static void compare_shared_bands(struct drive *drive)
     uint8_t made[LPMAG_CELLS];
     begin(drive, "bins that share a band's bit and are never scaled");
     memset(made, 255, sizeof made);
-    const uint8_t *cells = lend_cells(drive, made);
+    struct asked asked = lend_cells(drive, made);
     for (size_t bin = 0; bin < BINS; bin++) {
-        struct question question = {ELECTRON_SAMPLE, cells, sizeof made, {{"held", ALL_HELD}, {"bin", bin}}};
+        struct question question = {
+            ELECTRON_SAMPLE, asked.bytes, sizeof made, {{"held", ALL_HELD}, {"bin", bin}}};
         uint64_t low, high;
-        compare_sample(drive, cells, sizeof made, ALL_HELD, bin, 0, 0);
+        compare_sample(drive, &asked, bin, 0, 0);
         expect_answer(drive, &question,
-                      lpmag_electron_sample(cells, sizeof made, ALL_HELD, bin, 0, 0, &low, &high), 0);
+                      lpmag_electron_sample(asked.bytes, sizeof made, ALL_HELD, bin, 0, 0, &low, &high), 0);
         expect_answer(drive, &question, high, bin == 6 || bin >= 9 ? 524287 : 8 * 524287 + 7);
     }
 }
@@ -210,27 +190,27 @@ static void compare_every_three_d(struct drive *drive)
     static size_t steps[MOST_NUMBERS], angles[MOST_NUMBERS];
     size_t step_count = make_numbers(16, steps);
     size_t angle_count = make_numbers(90, angles);
-    uint64_t marks[MARKS];
+    uint64_t marks[MOST_MARKS];
     uint8_t made[LPMAG_CELLS];
     begin(drive, "3D at every step and angle, past the last and at huge ones, with every held mark");
-    make_marks(&drive->random, marks);
-    for (size_t i = 0; i < MARKS; i++) {
-        const uint8_t *cells = lend_any_cells(drive, made);
+    make_marks(&drive->random, &accumulation, marks);
+    for (size_t i = 0; i < accumulation.marks; i++) {
+        struct asked asked = lend_any(drive, &accumulation, made, marks[i]);
         for (size_t step = 0; step < step_count; step++)
             for (size_t angle = 0; angle < angle_count; angle++)
-                compare_three_d(drive, cells, LPMAG_CELLS, marks[i], steps[step], angles[angle]);
-        expect_cells(drive, THREE_D, cells, made, LPMAG_CELLS);
+                compare_three_d(drive, &asked, steps[step], angles[angle]);
+        expect_unchanged(drive, THREE_D, &asked);
     }
 
     begin(drive, "every code at every step and angle of 3D");
     for (unsigned code = 0; code < 256; code++) {
         for (size_t cell = 0; cell < sizeof made; cell++)
             made[cell] = (uint8_t)(code + cell);
-        const uint8_t *cells = lend_cells(drive, made);
+        struct asked asked = lend_cells(drive, made);
         for (size_t step = 0; step < STEPS; step++)
             for (size_t angle = 0; angle < STEP_ANGLES; angle++)
-                compare_three_d(drive, cells, LPMAG_CELLS, ALL_HELD, step, angle);
-        expect_cells(drive, THREE_D, cells, made, LPMAG_CELLS);
+                compare_three_d(drive, &asked, step, angle);
+        expect_unchanged(drive, THREE_D, &asked);
     }
 }
 
@@ -238,18 +218,20 @@ static void compare_every_three_d(struct drive *drive)
 
 static void compare_every_total_and_rate(struct drive *drive)
 {
-    uint64_t marks[MARKS];
+    uint64_t marks[MOST_MARKS];
     uint8_t made[LPMAG_CELLS];
     begin(drive, "Total and Rate of every code, with every held mark");
-    make_marks(&drive->random, marks);
+    make_marks(&drive->random, &accumulation, marks);
     for (unsigned code = 0; code < 256; code++) {
         random_fill(&drive->random, made, sizeof made);
         made[TOTAL_AT] = (uint8_t)code;
         made[RATE_AT] = (uint8_t)(code * 7 + 3);
-        const uint8_t *cells = lend_cells(drive, made);
-        for (size_t i = 0; i < MARKS; i++)
-            compare_total_and_rate(drive, cells, LPMAG_CELLS, marks[i]);
-        expect_cells(drive, TOTAL, cells, made, LPMAG_CELLS);
+        struct asked asked = lend_cells(drive, made);
+        for (size_t i = 0; i < accumulation.marks; i++) {
+            asked.held = marks[i];
+            compare_total_and_rate(drive, &asked);
+        }
+        expect_unchanged(drive, TOTAL, &asked);
     }
 }
 
@@ -258,22 +240,22 @@ static void compare_every_total_and_rate(struct drive *drive)
 static void compare_sizes(struct drive *drive)
 {
     static const size_t lengths[] = {0, 1, 2987, 2988, 2996, 2997, 2998, 4096};
-    uint64_t marks[MARKS];
+    uint64_t marks[MOST_MARKS];
     uint8_t made[4096];
     begin(drive, "the questions with accumulations of many sizes");
-    make_marks(&drive->random, marks);
+    make_marks(&drive->random, &accumulation, marks);
     random_fill(&drive->random, made, sizeof made);
     for (size_t i = 0; i < sizeof lengths / sizeof lengths[0]; i++)
-        for (size_t j = 0; j < MARKS; j++) {
-            const uint8_t *cells = lend_bytes(&drive->random, made, lengths[i]);
-            compare_total_and_rate(drive, cells, lengths[i], marks[j]);
+        for (size_t j = 0; j < accumulation.marks; j++) {
+            struct asked asked = lend_asked(drive, &accumulation, made, lengths[i], marks[j]);
+            compare_total_and_rate(drive, &asked);
             for (size_t k = 0; k <= BINS; k++) {
                 size_t angle = random_below(&drive->random, SAMPLE_ANGLES + 1);
-                compare_sample(drive, cells, lengths[i], marks[j], k, random_below(&drive->random, 5), angle);
+                compare_sample(drive, &asked, k, random_below(&drive->random, 5), angle);
                 angle = random_below(&drive->random, STEP_ANGLES + 1);
-                compare_three_d(drive, cells, lengths[i], marks[j], k, angle);
+                compare_three_d(drive, &asked, k, angle);
             }
-            expect_cells(drive, THREE_D, cells, made, lengths[i]);
+            expect_unchanged(drive, THREE_D, &asked);
         }
 }
 

@@ -7,16 +7,6 @@
 
 #include <system.h>
 
-/* A state that a record can follow: it isn't at the last count. */
-static struct lpmag_state any_state_with_a_next(struct random *random)
-{
-    struct lpmag_state state;
-    do
-        state = any_state(random, random_once_in(random, 2), random_once_in(random, 2));
-    while (state.last == COUNTS - 1);
-    return state;
-}
-
 /* ---- sizes ------------------------------------------------------------ */
 
 enum { WRONG_SIZES = 10 };

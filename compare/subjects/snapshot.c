@@ -1,7 +1,7 @@
 /* The questions about a finished snapshot: its raw bytes, 3D, pitch angle data, Total, Rate and the
  * magnetic angles. */
 #include "base/text.h"
-#include "driver/electrons.h"
+#include "driver/asked.h"
 #include "second/snapshot.h"
 #include "subjects.h"
 
@@ -13,59 +13,17 @@
 enum { TOTAL_AT = 2, RATE_AT = 3, THREE_D_AT = 4, PITCH_AT = 1324, MAG_ANGLES_AT = 1564 };
 enum { ENERGIES = 15, PITCH_ANGLES = 16, MAG_ANGLES = 4 };
 
-/* No place in a snapshot. */
-#define NO_PLACE LPMAG_SNAPSHOT
-
-/* No such place, then absent. Packet t carries bytes 82 (t - 36) to 82 (t - 36) + 81. */
-static uint8_t expected_at(size_t length, uint32_t held, size_t place)
-{
-    if (length != LPMAG_SNAPSHOT || held >= (uint32_t)1 << PACKETS || place >= LPMAG_SNAPSHOT)
-        return LPMAG_NO_SUCH_PLACE;
-    return held >> place / LPMAG_BURST & 1 ? LPMAG_OK : LPMAG_ABSENT;
-}
-
-static struct expected expected_counts_at(const uint8_t *snapshot, size_t length, uint32_t held, size_t place,
-                                          uint64_t divided_by)
-{
-    uint8_t answer = expected_at(length, held, place);
-    if (answer != LPMAG_OK)
-        return (struct expected){answer, 0, 0};
-    return expected_counts(snapshot[place], divided_by);
-}
-
 /* ---- one question ----------------------------------------------------- */
-
-/* What is asked about: the bytes lent, and the marks of the packets held. */
-struct asked {
-    const uint8_t *snapshot;
-    size_t length;
-    uint32_t held;
-};
-
-/* A byte that was asked for, and where it stands. */
-static void compare_given(struct drive *drive, const struct question *question, const struct asked *asked,
-                          struct rooms *rooms, uint8_t first, uint8_t second, size_t place)
-{
-    same_answer(drive, question, first, second);
-    same_rooms(drive, question, rooms, first != LPMAG_OK);
-    expect_answer(drive, question, first, expected_at(asked->length, asked->held, place));
-    drive->answers[question->function][first]++;
-    if (first == LPMAG_OK)
-        expect_bytes(drive, question, "the byte isn't the one in its place",
-                     room_of_bytes(rooms, &rooms->first), asked->snapshot + place, 1);
-}
 
 static void compare_byte(struct drive *drive, const struct asked *asked, size_t place)
 {
     struct question question = {
-        SNAPSHOT_BYTE, asked->snapshot, asked->length, {{"held", asked->held}, {"place", place}}};
+        SNAPSHOT_BYTE, asked->bytes, asked->length, {{"held", asked->held}, {"place", place}}};
     struct rooms rooms;
     rooms_make(&rooms, &drive->random, 1);
-    uint8_t first = lpmag_snapshot_byte(asked->snapshot, asked->length, asked->held, place,
-                                        room_of_bytes(&rooms, &rooms.first));
-    uint8_t second = second_snapshot_byte(asked->snapshot, asked->length, asked->held, place,
-                                          room_of_bytes(&rooms, &rooms.second));
-    compare_given(drive, &question, asked, &rooms, first, second, place);
+    uint8_t first = lpmag_snapshot_byte(ASKED_32(asked), place, room_of_bytes(&rooms, &rooms.first));
+    uint8_t second = second_snapshot_byte(ASKED_32(asked), place, room_of_bytes(&rooms, &rooms.second));
+    compare_byte_at(drive, &question, asked, &rooms, first, second, place);
     if (first == LPMAG_OK)
         drive->bytes_given[place]++;
     else if (first == LPMAG_ABSENT)
@@ -75,15 +33,13 @@ static void compare_byte(struct drive *drive, const struct asked *asked, size_t 
 static void compare_angle(struct drive *drive, const struct asked *asked, size_t number)
 {
     struct question question = {
-        SNAPSHOT_ANGLE, asked->snapshot, asked->length, {{"held", asked->held}, {"number", number}}};
+        SNAPSHOT_ANGLE, asked->bytes, asked->length, {{"held", asked->held}, {"number", number}}};
     struct rooms rooms;
     rooms_make(&rooms, &drive->random, 1);
-    uint8_t first = lpmag_snapshot_angle(asked->snapshot, asked->length, asked->held, number,
-                                         room_of_bytes(&rooms, &rooms.first));
-    uint8_t second = second_snapshot_angle(asked->snapshot, asked->length, asked->held, number,
-                                           room_of_bytes(&rooms, &rooms.second));
-    compare_given(drive, &question, asked, &rooms, first, second,
-                  number < MAG_ANGLES ? MAG_ANGLES_AT + number : NO_PLACE);
+    uint8_t first = lpmag_snapshot_angle(ASKED_32(asked), number, room_of_bytes(&rooms, &rooms.first));
+    uint8_t second = second_snapshot_angle(ASKED_32(asked), number, room_of_bytes(&rooms, &rooms.second));
+    compare_byte_at(drive, &question, asked, &rooms, first, second,
+                    number < MAG_ANGLES ? MAG_ANGLES_AT + number : NO_PLACE);
 }
 
 /* A table of counts, each by its row and its angle. */
@@ -95,31 +51,26 @@ struct table {
     table_question *first, *second;
 };
 
-static const struct table three_d = {SNAPSHOT_THREE_D,       "step",
-                                     THREE_D_AT,             STEPS,
-                                     STEP_ANGLES,            lpmag_snapshot_three_d,
-                                     second_snapshot_three_d};
-static const struct table pitch = {SNAPSHOT_PITCH, "energy",     PITCH_AT,
-                                   ENERGIES,       PITCH_ANGLES, lpmag_snapshot_pitch,
-                                   second_snapshot_pitch};
+static const struct table three_d = {
+    SNAPSHOT_THREE_D,       "step", THREE_D_AT, STEPS, STEP_ANGLES, lpmag_snapshot_three_d,
+    second_snapshot_three_d};
+static const struct table pitch = {
+    SNAPSHOT_PITCH, "energy", PITCH_AT, ENERGIES, PITCH_ANGLES, lpmag_snapshot_pitch, second_snapshot_pitch};
 
 static void compare_in(struct drive *drive, const struct asked *asked, const struct table *table, size_t row,
                        size_t angle)
 {
     struct question question = {table->function,
-                                asked->snapshot,
+                                asked->bytes,
                                 asked->length,
                                 {{"held", asked->held}, {table->row, row}, {"angle", angle}}};
     struct ranges ranges;
     ranges_make(&ranges, &drive->random);
-    uint8_t first = table->first(asked->snapshot, asked->length, asked->held, row, angle, &ranges.first[LOW],
-                                 &ranges.first[HIGH]);
-    uint8_t second = table->second(asked->snapshot, asked->length, asked->held, row, angle,
-                                   &ranges.second[LOW], &ranges.second[HIGH]);
+    uint8_t first = table->first(ASKED_32(asked), row, angle, RANGE_OF(ranges.first));
+    uint8_t second = table->second(ASKED_32(asked), row, angle, RANGE_OF(ranges.second));
     size_t place =
         row < table->rows && angle < table->angles ? table->at + table->angles * row + angle : NO_PLACE;
-    compare_counts(drive, &question, &ranges, first, second,
-                   expected_counts_at(asked->snapshot, asked->length, asked->held, place, 1));
+    compare_counts(drive, &question, &ranges, first, second, expected_counts_at(asked, place, 1));
 }
 
 /* A number of the header. */
@@ -128,15 +79,12 @@ typedef uint8_t header_question(const uint8_t *, size_t, uint32_t, uint64_t *, u
 static void compare_header(struct drive *drive, const struct asked *asked, enum function function, size_t at,
                            header_question *ask_first, header_question *ask_second)
 {
-    struct question question = {function, asked->snapshot, asked->length, {{"held", asked->held}}};
+    struct question question = {function, asked->bytes, asked->length, {{"held", asked->held}}};
     struct ranges ranges;
     ranges_make(&ranges, &drive->random);
-    uint8_t first =
-        ask_first(asked->snapshot, asked->length, asked->held, &ranges.first[LOW], &ranges.first[HIGH]);
-    uint8_t second =
-        ask_second(asked->snapshot, asked->length, asked->held, &ranges.second[LOW], &ranges.second[HIGH]);
-    compare_counts(drive, &question, &ranges, first, second,
-                   expected_counts_at(asked->snapshot, asked->length, asked->held, at, 16));
+    uint8_t first = ask_first(ASKED_32(asked), RANGE_OF(ranges.first));
+    uint8_t second = ask_second(ASKED_32(asked), RANGE_OF(ranges.second));
+    compare_counts(drive, &question, &ranges, first, second, expected_counts_at(asked, at, 16));
 }
 
 static void compare_total_and_rate(struct drive *drive, const struct asked *asked)
@@ -145,61 +93,21 @@ static void compare_total_and_rate(struct drive *drive, const struct asked *aske
     compare_header(drive, asked, SNAPSHOT_RATE, RATE_AT, lpmag_snapshot_rate, second_snapshot_rate);
 }
 
-/* ---- what is asked with ----------------------------------------------- */
-
-#define ALL_PACKETS (((uint32_t)1 << PACKETS) - 1)
-
-/* None, each packet alone, all, all but each, any, and every mark past type 55, alone or among
- * others. */
-enum { PACKET_MARKS = 90 };
-static void make_packet_marks(struct random *random, uint32_t *marks)
-{
-    size_t made = 0;
-    marks[made++] = 0;
-    marks[made++] = ALL_PACKETS;
-    for (unsigned packet = 0; packet < PACKETS; packet++) {
-        marks[made++] = (uint32_t)1 << packet;
-        marks[made++] = ALL_PACKETS & ~((uint32_t)1 << packet);
-    }
-    for (unsigned past = PACKETS; past < 32; past++) {
-        marks[made++] = (uint32_t)1 << past;
-        marks[made++] = (uint32_t)1 << past | ALL_PACKETS;
-    }
-    marks[made++] = ~(uint32_t)0;
-    marks[made++] = ~ALL_PACKETS;
-    for (; made < PACKET_MARKS; made++)
-        marks[made] = (uint32_t)random_next(random) & (made % 4 == 0 ? ~(uint32_t)0 : ALL_PACKETS);
-}
-
-static struct asked lend_asked(struct drive *drive, const uint8_t *made, uint32_t held)
-{
-    return (struct asked){lend_bytes(&drive->random, made, LPMAG_SNAPSHOT), LPMAG_SNAPSHOT, held};
-}
-
-static void expect_unchanged(struct drive *drive, enum function function, const struct asked *asked,
-                             const uint8_t *made)
-{
-    struct question question = {function, asked->snapshot, asked->length, {{NULL, 0}}};
-    if (asked->length > 0)
-        expect_bytes(drive, &question, "the snapshot was changed", asked->snapshot, made, asked->length);
-}
-
 /* ---- the questions ---------------------------------------------------- */
 
 static void compare_bytes(struct drive *drive)
 {
     static size_t numbers[MOST_NUMBERS];
     size_t count = make_numbers(1700, numbers);
-    uint32_t marks[PACKET_MARKS];
+    uint64_t marks[MOST_MARKS];
     uint8_t made[LPMAG_SNAPSHOT];
     begin(drive, "bytes of a snapshot at every place, past the last and at huge ones, with every held mark");
-    make_packet_marks(&drive->random, marks);
-    for (size_t i = 0; i < PACKET_MARKS; i++) {
-        random_fill(&drive->random, made, sizeof made);
-        struct asked asked = lend_asked(drive, made, marks[i]);
+    make_marks(&drive->random, &snapshot, marks);
+    for (size_t i = 0; i < snapshot.marks; i++) {
+        struct asked asked = lend_any(drive, &snapshot, made, marks[i]);
         for (size_t j = 0; j < count; j++)
             compare_byte(drive, &asked, numbers[j]);
-        expect_unchanged(drive, SNAPSHOT_BYTE, &asked, made);
+        expect_unchanged(drive, SNAPSHOT_BYTE, &asked);
     }
 }
 
@@ -210,21 +118,20 @@ static void compare_counts_of(struct drive *drive)
     size_t angle_count = make_numbers(90, angles);
     size_t energy_count = make_numbers(16, energies);
     size_t pitch_count = make_numbers(17, pitches);
-    uint32_t marks[PACKET_MARKS];
+    uint64_t marks[MOST_MARKS];
     uint8_t made[LPMAG_SNAPSHOT];
     begin(drive, "3D and pitch angle data of a snapshot at every place, past the last and at huge ones, "
                  "with every held mark");
-    make_packet_marks(&drive->random, marks);
-    for (size_t i = 0; i < PACKET_MARKS; i++) {
-        random_fill(&drive->random, made, sizeof made);
-        struct asked asked = lend_asked(drive, made, marks[i]);
+    make_marks(&drive->random, &snapshot, marks);
+    for (size_t i = 0; i < snapshot.marks; i++) {
+        struct asked asked = lend_any(drive, &snapshot, made, marks[i]);
         for (size_t j = 0; j < step_count; j++)
             for (size_t k = 0; k < angle_count; k++)
                 compare_in(drive, &asked, &three_d, steps[j], angles[k]);
         for (size_t j = 0; j < energy_count; j++)
             for (size_t k = 0; k < pitch_count; k++)
                 compare_in(drive, &asked, &pitch, energies[j], pitches[k]);
-        expect_unchanged(drive, SNAPSHOT_PITCH, &asked, made);
+        expect_unchanged(drive, SNAPSHOT_PITCH, &asked);
     }
 }
 
@@ -237,29 +144,29 @@ static void compare_every_code(struct drive *drive)
     for (unsigned code = 0; code < 256; code++) {
         for (size_t place = 0; place < sizeof made; place++)
             made[place] = (uint8_t)(code + place);
-        struct asked asked = lend_asked(drive, made, ALL_PACKETS);
+        struct asked asked = lend_asked(drive, &snapshot, made, sizeof made, ALL_PACKETS);
         for (size_t step = 0; step < STEPS; step++)
             for (size_t angle = 0; angle < STEP_ANGLES; angle++)
                 compare_in(drive, &asked, &three_d, step, angle);
         for (size_t energy = 0; energy < ENERGIES; energy++)
             for (size_t angle = 0; angle < PITCH_ANGLES; angle++)
                 compare_in(drive, &asked, &pitch, energy, angle);
-        expect_unchanged(drive, SNAPSHOT_PITCH, &asked, made);
+        expect_unchanged(drive, SNAPSHOT_PITCH, &asked);
     }
 }
 
 static void compare_every_total_and_rate(struct drive *drive)
 {
-    uint32_t marks[PACKET_MARKS];
+    uint64_t marks[MOST_MARKS];
     uint8_t made[LPMAG_SNAPSHOT];
     begin(drive, "Total and Rate of a snapshot of every code, with every held mark");
-    make_packet_marks(&drive->random, marks);
+    make_marks(&drive->random, &snapshot, marks);
     for (unsigned code = 0; code < 256; code++) {
         random_fill(&drive->random, made, sizeof made);
         made[TOTAL_AT] = (uint8_t)code;
         made[RATE_AT] = (uint8_t)(code * 7 + 3);
-        for (size_t i = 0; i < PACKET_MARKS; i++) {
-            struct asked asked = lend_asked(drive, made, marks[i]);
+        for (size_t i = 0; i < snapshot.marks; i++) {
+            struct asked asked = lend_asked(drive, &snapshot, made, sizeof made, marks[i]);
             compare_total_and_rate(drive, &asked);
         }
     }
@@ -269,17 +176,16 @@ static void compare_angles(struct drive *drive)
 {
     static size_t numbers[MOST_NUMBERS];
     size_t count = make_numbers(8, numbers);
-    uint32_t marks[PACKET_MARKS];
+    uint64_t marks[MOST_MARKS];
     uint8_t made[LPMAG_SNAPSHOT];
     begin(drive, "magnetic angles of a snapshot, past the last and at huge ones, with every held mark");
     for (unsigned i = 0; i < 4; i++) {
-        make_packet_marks(&drive->random, marks);
-        for (size_t j = 0; j < PACKET_MARKS; j++) {
-            random_fill(&drive->random, made, sizeof made);
-            struct asked asked = lend_asked(drive, made, marks[j]);
+        make_marks(&drive->random, &snapshot, marks);
+        for (size_t j = 0; j < snapshot.marks; j++) {
+            struct asked asked = lend_any(drive, &snapshot, made, marks[j]);
             for (size_t k = 0; k < count; k++)
                 compare_angle(drive, &asked, numbers[k]);
-            expect_unchanged(drive, SNAPSHOT_ANGLE, &asked, made);
+            expect_unchanged(drive, SNAPSHOT_ANGLE, &asked);
         }
     }
 }
@@ -287,14 +193,14 @@ static void compare_angles(struct drive *drive)
 static void compare_sizes(struct drive *drive)
 {
     static const size_t lengths[] = {0, 1, 82, 1558, 1639, 1640, 1641, 1722, 2997, 4096};
-    uint32_t marks[PACKET_MARKS];
+    uint64_t marks[MOST_MARKS];
     uint8_t made[4096];
     begin(drive, "the questions about snapshots of many sizes");
-    make_packet_marks(&drive->random, marks);
+    make_marks(&drive->random, &snapshot, marks);
     random_fill(&drive->random, made, sizeof made);
     for (size_t i = 0; i < sizeof lengths / sizeof lengths[0]; i++)
-        for (size_t j = 0; j < PACKET_MARKS; j++) {
-            struct asked asked = {lend_bytes(&drive->random, made, lengths[i]), lengths[i], marks[j]};
+        for (size_t j = 0; j < snapshot.marks; j++) {
+            struct asked asked = lend_asked(drive, &snapshot, made, lengths[i], marks[j]);
             compare_total_and_rate(drive, &asked);
             for (size_t k = 0; k <= STEPS; k++) {
                 compare_byte(drive, &asked, random_below(&drive->random, LPMAG_SNAPSHOT + 8));
@@ -302,7 +208,7 @@ static void compare_sizes(struct drive *drive)
                 compare_in(drive, &asked, &pitch, k, random_below(&drive->random, PITCH_ANGLES + 1));
                 compare_angle(drive, &asked, k % 5);
             }
-            expect_unchanged(drive, SNAPSHOT_ANGLE, &asked, made);
+            expect_unchanged(drive, SNAPSHOT_ANGLE, &asked);
         }
 }
 

@@ -32,12 +32,13 @@ static void compare_state(struct drive *drive, const struct lpmag_state *state, 
     compare_finish(drive, &reader, expected);
 }
 
-static struct lpmag_state any_good_state(struct random *random)
+/* Not the fresh one's count either, so that what stands in it matters. */
+static struct lpmag_state any_state_but_fresh(struct random *random)
 {
     struct lpmag_state state;
     do
-        state = any_state(random, random_once_in(random, 2), random_once_in(random, 2));
-    while (state.last == 0 || state.last == COUNTS - 1);
+        state = any_state_with_a_next(random);
+    while (state.last == 0);
     return state;
 }
 
@@ -49,7 +50,7 @@ static void compare_cuts(struct drive *drive)
         for (unsigned cut = 0; cut < 256; cut++) {
             struct lpmag_state state = fresh;
             while (i >= 2 && (state.last == 0 || (state.snapshot.held != 0) != (i < 5)))
-                state = any_good_state(&drive->random);
+                state = any_state_but_fresh(&drive->random);
             state.snapshot.cut = (uint8_t)cut;
             compare_state(drive, &state, cut == 0 || (cut == 1 && state.snapshot.held != 0));
             for (enum call call = 0; call < CALLS; call++)
@@ -64,7 +65,7 @@ static void compare_flags(struct drive *drive)
     for (unsigned i = 0; i < 8; i++)
         for (unsigned flag = 0; flag < 256; flag++) {
             bool is_fresh = i < 2;
-            struct lpmag_state state = is_fresh ? fresh : any_good_state(&drive->random);
+            struct lpmag_state state = is_fresh ? fresh : any_state_but_fresh(&drive->random);
             state.any = (uint8_t)flag;
             compare_state(drive, &state, flag == 1 || (flag == 0 && is_fresh));
             for (enum call call = 0; call < CALLS; call++)
@@ -77,7 +78,7 @@ static void compare_spares(struct drive *drive)
     begin(drive, "every bit of the spare fields, in the fresh state and in others");
     for (unsigned i = 0; i < 16; i++)
         for (unsigned bit = 0; bit < SPARE_BITS; bit++) {
-            struct lpmag_state state = i < 2 ? fresh : any_good_state(&drive->random);
+            struct lpmag_state state = i < 2 ? fresh : any_state_but_fresh(&drive->random);
             set_spare_bit(&state, bit);
             compare_state(drive, &state, false);
             for (enum call call = 0; call < CALLS; call++)

@@ -14,20 +14,22 @@ static void compare_version(struct drive *drive)
     expect_answer(drive, &question, lpmag_version(), LPMAG_VERSION);
 }
 
+/* The five functions: what both answer, and what it has to be. */
+#define SAME_NUMBER(NAME, name) \
+    question.function = NAME;   \
+    same_answer(drive, &question, lpmag_##name(bytes, length, place), second_##name(bytes, length, place))
+#define EXPECTED_NUMBER(NAME, name, number) \
+    question.function = NAME;               \
+    expect_answer(drive, &question, lpmag_##name(bytes, length, place), number)
+
 static void compare_place(struct drive *drive, const uint8_t *bytes, size_t length, size_t place)
 {
     struct question question = {WORD16, bytes, length, {{"place", place}}};
-    same_answer(drive, &question, lpmag_word16(bytes, length, place), second_word16(bytes, length, place));
-    question.function = WORD24;
-    same_answer(drive, &question, lpmag_word24(bytes, length, place), second_word24(bytes, length, place));
-    question.function = WORD32;
-    same_answer(drive, &question, lpmag_word32(bytes, length, place), second_word32(bytes, length, place));
-    question.function = TWELVE_LEAST;
-    same_answer(drive, &question, lpmag_twelve_least(bytes, length, place),
-                second_twelve_least(bytes, length, place));
-    question.function = TWELVE_MOST;
-    same_answer(drive, &question, lpmag_twelve_most(bytes, length, place),
-                second_twelve_most(bytes, length, place));
+    SAME_NUMBER(WORD16, word16);
+    SAME_NUMBER(WORD24, word24);
+    SAME_NUMBER(WORD32, word32);
+    SAME_NUMBER(TWELVE_LEAST, twelve_least);
+    SAME_NUMBER(TWELVE_MOST, twelve_most);
 }
 
 static void compare_around(struct drive *drive, const uint8_t *bytes, size_t length, size_t place)
@@ -78,21 +80,13 @@ static void compare_ends(struct drive *drive)
         const uint8_t *bytes = lend_bytes(&drive->random, ones, length);
         for (size_t place = 0; place <= length + 20; place++) {
             struct question question = {WORD16, bytes, length, {{"place", place}}};
+            bool twelve = 12 * place + 12 <= 8 * length;
             compare_place(drive, bytes, length, place);
-            expect_answer(drive, &question, lpmag_word16(bytes, length, place),
-                          place + 2 <= length ? 0xFFFF : 0);
-            question.function = WORD24;
-            expect_answer(drive, &question, lpmag_word24(bytes, length, place),
-                          place + 3 <= length ? 0xFFFFFF : 0);
-            question.function = WORD32;
-            expect_answer(drive, &question, lpmag_word32(bytes, length, place),
-                          place + 4 <= length ? 0xFFFFFFFF : 0);
-            question.function = TWELVE_LEAST;
-            expect_answer(drive, &question, lpmag_twelve_least(bytes, length, place),
-                          12 * place + 12 <= 8 * length ? 0xFFF : 0);
-            question.function = TWELVE_MOST;
-            expect_answer(drive, &question, lpmag_twelve_most(bytes, length, place),
-                          12 * place + 12 <= 8 * length ? 0xFFF : 0);
+            EXPECTED_NUMBER(WORD16, word16, place + 2 <= length ? 0xFFFF : 0);
+            EXPECTED_NUMBER(WORD24, word24, place + 3 <= length ? 0xFFFFFF : 0);
+            EXPECTED_NUMBER(WORD32, word32, place + 4 <= length ? 0xFFFFFFFF : 0);
+            EXPECTED_NUMBER(TWELVE_LEAST, twelve_least, twelve ? 0xFFF : 0);
+            EXPECTED_NUMBER(TWELVE_MOST, twelve_most, twelve ? 0xFFF : 0);
         }
     }
 }
