@@ -79,26 +79,16 @@ static void expect_rooms(struct drive *drive, const struct question *question, s
                      reader->rooms[room].length);
 }
 
-struct lpmag_report reader_report(struct reader *reader)
-{
-    struct lpmag_report report;
-    memcpy(&report, struct_of(reader, TOLD, FIRSTS), sizeof report);
-    return report;
-}
-
-struct lpmag_fed reader_fed(struct reader *reader)
-{
-    struct lpmag_fed fed;
-    memcpy(&fed, struct_of(reader, TOLD, FIRSTS), sizeof fed);
-    return fed;
-}
-
-struct lpmag_closed reader_closed(struct reader *reader)
-{
-    struct lpmag_closed closed;
-    memcpy(&closed, struct_of(reader, TOLD, FIRSTS), sizeof closed);
-    return closed;
-}
+#define TOLD_AS(name)                                                \
+    struct lpmag_##name reader_##name(struct reader *reader)         \
+    {                                                                \
+        struct lpmag_##name told;                                    \
+        memcpy(&told, struct_of(reader, TOLD, FIRSTS), sizeof told); \
+        return told;                                                 \
+    }
+TOLD_AS(report)
+TOLD_AS(fed)
+TOLD_AS(closed)
 
 /* ---- the clock -------------------------------------------------------- */
 

@@ -37,6 +37,22 @@ uint64_t second_marks_number(const bool *marks, size_t count)
     return number;
 }
 
+size_t second_marks_set(const bool *marks, size_t count)
+{
+    size_t set = 0;
+    for (size_t i = 0; i < count; i++)
+        set += marks[i];
+    return set;
+}
+
+/* The number of the highest mark that is set, and one more; 0 where none is. */
+static size_t past_highest(const bool *marks, size_t count)
+{
+    while (count > 0 && !marks[count - 1])
+        count--;
+    return count;
+}
+
 struct major_frame second_read_major(const struct second_major *lent)
 {
     struct major_frame major = {.number = lent->number};
@@ -94,22 +110,6 @@ struct second_state second_lent_state(const struct state *state)
 }
 
 /* ---- 01's list -------------------------------------------------------- */
-
-size_t second_marks_set(const bool *marks, size_t count)
-{
-    size_t set = 0;
-    for (size_t i = 0; i < count; i++)
-        set += marks[i];
-    return set;
-}
-
-/* The number of the highest mark that is set, and one more; 0 where none is. */
-static size_t past_highest(const bool *marks, size_t count)
-{
-    while (count > 0 && !marks[count - 1])
-        count--;
-    return count;
-}
 
 /* One number plus another is at most a third, as plain numbers: the sum itself
  * could leave 64 bits. */
