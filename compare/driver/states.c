@@ -1,7 +1,6 @@
 #include "states.h"
 
 #include "base/text.h"
-#include "electrons.h"
 
 /* ---- states that keep the list ---------------------------------------- */
 
