@@ -271,11 +271,11 @@ size_t compare_feed(struct drive *drive, struct reader *reader, const struct row
     return fed.taken / LPMAG_RECORD;
 }
 
-void compare_fed_whole(struct drive *drive, struct reader *reader, const struct input *input)
+void compare_fed_whole(struct drive *drive, struct reader *reader, const struct input *input, uint8_t answer)
 {
     static struct row row;
     row_clear(&row);
-    row_add(&row, input, LPMAG_OK);
+    row_add(&row, input, answer);
     compare_feed(drive, reader, &row, 0, LPMAG_RECORD);
 }
 
@@ -288,6 +288,15 @@ void compare_feed_of(struct drive *drive, struct reader *reader, const struct in
     row_end(random, &row, random_below(random, LPMAG_RECORD));
     bool whole = !random_once_in(random, 4);
     compare_feed(drive, reader, &row, 0, whole ? row_left(&row, 0) : row.tail);
+}
+
+void compare_taken(struct drive *drive, struct reader *reader, const struct input *input, uint8_t answer,
+                   uint32_t fed_once_in)
+{
+    if (input->length == LPMAG_RECORD && random_once_in(&drive->random, fed_once_in))
+        compare_feed_of(drive, reader, input, answer);
+    else
+        compare_step(drive, reader, input, answer);
 }
 
 void compare_feed_refused(struct drive *drive, struct reader *reader)

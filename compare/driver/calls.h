@@ -16,11 +16,15 @@ void compare_finish(struct drive *drive, struct reader *reader, uint8_t expected
 size_t compare_feed(struct drive *drive, struct reader *reader, const struct row *row, size_t from,
                     size_t length);
 
-/* Feeds one record that is accepted, and nothing else. */
-void compare_fed_whole(struct drive *drive, struct reader *reader, const struct input *input);
+/* Feeds one record, and nothing else. */
+void compare_fed_whole(struct drive *drive, struct reader *reader, const struct input *input, uint8_t answer);
 
 /* Feeds one record with a part of another after it, or only a part of it. */
 void compare_feed_of(struct drive *drive, struct reader *reader, const struct input *input, uint8_t answer);
+
+/* That or a step, which it always is for a record of another length: fed once in so many times. */
+void compare_taken(struct drive *drive, struct reader *reader, const struct input *input, uint8_t answer,
+                   uint32_t fed_once_in);
 
 /* Where rule 1 is broken: feeds no whole record, one or many, which could follow the
  * state. */

@@ -14,6 +14,20 @@ static void print_met(const char *what, uint64_t times)
         fail(1, "compare: the last of these was never met, so nothing is known about it");
 }
 
+/* Likewise of something that is named in two parts, or with a number at its end. */
+static void print_met_of(const char *of, const char *what, uint64_t times)
+{
+    print_text(of);
+    print_met(what, times);
+}
+
+static void print_met_with(const char *what, uint64_t number, uint64_t times)
+{
+    print_text(what);
+    print_number(number);
+    print_met("", times);
+}
+
 static void find_rarer(uint64_t *least, uint64_t times)
 {
     *least = times < *least ? times : *least;
@@ -77,9 +91,8 @@ static void print_answers_met(const struct drive *drive)
     for (size_t i = 0; i < sizeof given / sizeof given[0]; i++)
         for (size_t j = 0; j < given[i].count; j++) {
             print_text(function_name(given[i].function));
-            print_text(" with answer ");
-            print_number(given[i].answers[j]);
-            print_met("", drive->answers[given[i].function][given[i].answers[j]]);
+            print_met_with(" with answer ", given[i].answers[j],
+                           drive->answers[given[i].function][given[i].answers[j]]);
         }
 }
 
@@ -130,9 +143,9 @@ static void print_closed_met(const struct drive *drive)
                     if (!can_close(call, accumulation == 1, snapshots))
                         continue;
                     print_text(by[call]);
-                    print_text(what[major][accumulation]);
-                    print_met((major + accumulation == 0 ? alone : beside)[snapshots],
-                              drive->closed[call][major][accumulation][snapshots]);
+                    print_met_of(what[major][accumulation],
+                                 (major + accumulation == 0 ? alone : beside)[snapshots],
+                                 drive->closed[call][major][accumulation][snapshots]);
                 }
 }
 
@@ -171,20 +184,19 @@ static void print_bursts_met(const struct drive *drive)
         for (enum since since = 0; since < SINCE; since++) {
             if (together == IN_ONE_FRAME && (since == CUT_SINCE || since == BOTH_BITS))
                 continue; /* nothing comes between the two packets of a frame */
-            print_text(what[since]);
-            print_met(where[together], rarest_above(PACKETS, drive->above[together][since], 1));
+            print_met_of(what[since], where[together],
+                         rarest_above(PACKETS, drive->above[together][since], 1));
         }
-        print_text("packets of a type not above the last, ");
-        print_met(where[together], rarest_not_above(PACKETS, drive->packets_not_above[together]));
+        print_met_of("packets of a type not above the last, ", where[together],
+                     rarest_not_above(PACKETS, drive->packets_not_above[together]));
     }
     print_met("packets with no snapshot open", drive->packets_alone);
     for (size_t open = 0; open < 2; open++)
-        for (size_t bit_6 = 0; bit_6 < 2; bit_6++) {
-            print_text(open ? "packets of 56, 57 and 62 with a snapshot open"
-                            : "packets of 56, 57 and 62 with none open");
-            print_met(bit_6 ? ", with bit 6, the rarest" : ", without bit 6, the rarest",
-                      rarest_fill(drive, open == 1, bit_6 == 1));
-        }
+        for (size_t bit_6 = 0; bit_6 < 2; bit_6++)
+            print_met_of(open ? "packets of 56, 57 and 62 with a snapshot open"
+                              : "packets of 56, 57 and 62 with none open",
+                         bit_6 ? ", with bit 6, the rarest" : ", without bit 6, the rarest",
+                         rarest_fill(drive, open == 1, bit_6 == 1));
     print_met("records after a missing count with a snapshot open", drive->missing_with_open);
     print_met("bytes of a snapshot, of the rarest place", rarest(drive->bytes_given, LPMAG_SNAPSHOT));
     print_met("bytes of a snapshot absent, of the rarest place", rarest(drive->bytes_absent, LPMAG_SNAPSHOT));
@@ -192,10 +204,10 @@ static void print_bursts_met(const struct drive *drive)
         uint64_t least = UINT64_MAX;
         for (size_t range = 0; range < 8; range++)
             find_rarer(&least, drive->burst_ranges[range][which]);
-        print_text(which == 0 ? "seconds of MAG in packet one" : "seconds of MAG in packet two");
-        print_met(", of the rarest range", least);
-        print_text(which == 0 ? "packets one" : "packets two");
-        print_met(" that are no second of MAG", drive->burst_ranges[LPMAG_NO_SUCH_PLACE][which]);
+        print_met_of(which == 0 ? "seconds of MAG in packet one" : "seconds of MAG in packet two",
+                     ", of the rarest range", least);
+        print_met_of(which == 0 ? "packets one" : "packets two", " that are no second of MAG",
+                     drive->burst_ranges[LPMAG_NO_SUCH_PLACE][which]);
     }
 }
 
@@ -231,20 +243,12 @@ static void print_clock_met(const struct drive *drive)
     for (enum jump jump = 0; jump < JUMPS; jump++)
         for (size_t below = 0; below < 2; below++) {
             print_text("records ahead by ");
-            print_text(ahead[jump]);
-            print_met(below ? ", the count below the last" : ", the count above the last",
-                      drive->jumps[jump][below]);
+            print_met_of(ahead[jump], below ? ", the count below the last" : ", the count above the last",
+                         drive->jumps[jump][below]);
         }
     print_met("steps that begin a turn", drive->turned[BY_STEP]);
     print_met("feeds that begin a turn", drive->turned[BY_FEED]);
     print_met("records refused with 12 that would pass the last turn", drive->late_past_turns);
-}
-
-/* Of one of the three functions. */
-static void print_call_met(enum call call, const char *what, uint64_t times)
-{
-    print_text(call_names[call]);
-    print_met(what, times);
 }
 
 static void print_broken_met(const struct drive *drive, enum call call)
@@ -254,28 +258,24 @@ static void print_broken_met(const struct drive *drive, enum call call)
             continue; /* never broken alone */
         print_text(call_names[call]);
         print_text(" with a state that breaks only \"");
-        print_text(clause_name(clause));
-        print_met("\"", drive->broken[call][clause]);
+        print_met_of(clause_name(clause), "\"", drive->broken[call][clause]);
     }
     for (enum lent_room room = 0; room < SIZED; room++) {
         print_text(call_names[call]);
-        print_text(" with a wrong size of ");
-        print_met(room_name(room), drive->wrong_sizes[call][room]);
+        print_met_of(" with a wrong size of ", room_name(room), drive->wrong_sizes[call][room]);
     }
 }
 
 static void print_structs_met(const struct drive *drive, enum call call)
 {
-    print_call_met(call, " with the fresh state", drive->fresh[call]);
-    print_call_met(call, " with the rarest flag byte in the fresh state",
-                   rarest(drive->flags[call][true], 256));
-    print_call_met(call, " with the rarest flag byte in another", rarest(drive->flags[call][false], 256));
-    print_call_met(call, " with the rarest cut mark and no snapshot open",
-                   rarest(drive->cuts[call][false], 256));
-    print_call_met(call, " with the rarest cut mark of an open snapshot",
-                   rarest(drive->cuts[call][true], 256));
-    print_call_met(call, " with the rarest bit of the spare fields", rarest(drive->spares[call], SPARE_BITS));
-    print_call_met(call, " with every field known and different", drive->structs[call]);
+    const char *by = call_names[call];
+    print_met_of(by, " with the fresh state", drive->fresh[call]);
+    print_met_of(by, " with the rarest flag byte in the fresh state", rarest(drive->flags[call][true], 256));
+    print_met_of(by, " with the rarest flag byte in another", rarest(drive->flags[call][false], 256));
+    print_met_of(by, " with the rarest cut mark and no snapshot open", rarest(drive->cuts[call][false], 256));
+    print_met_of(by, " with the rarest cut mark of an open snapshot", rarest(drive->cuts[call][true], 256));
+    print_met_of(by, " with the rarest bit of the spare fields", rarest(drive->spares[call], SPARE_BITS));
+    print_met_of(by, " with every field known and different", drive->structs[call]);
 }
 
 /* A record of feed has its length, so rule 2 is never met there, and rule 1 is feed's own
@@ -289,21 +289,16 @@ static void print_fed_met(const struct drive *drive)
     for (unsigned number = 3; number < REFUSALS; number++) {
         if (number == 13)
             continue; /* no refusal's */
-        print_text("feeds of which the last record is refused with ");
-        print_number(number);
-        print_met("", drive->fed[number]);
+        print_met_with("feeds of which the last record is refused with ", number, drive->fed[number]);
     }
     for (enum given given = 0; given < GIVEN; given++) {
-        print_text("feeds that take ");
-        print_met(records[given], drive->fed_taken[given]);
-        print_text("feeds that leave no part of a record and ");
-        print_met(records[given], drive->fed_left[false][given]);
-        print_text("feeds that leave a part of a record and ");
-        print_met(records[given], drive->fed_left[true][given]);
-        print_text("feeds with a wrong size and ");
-        print_met(records[given], drive->fed_broken[false][given]);
-        print_text("feeds with a broken state and ");
-        print_met(records[given], drive->fed_broken[true][given]);
+        print_met_of("feeds that take ", records[given], drive->fed_taken[given]);
+        print_met_of("feeds that leave no part of a record and ", records[given],
+                     drive->fed_left[false][given]);
+        print_met_of("feeds that leave a part of a record and ", records[given],
+                     drive->fed_left[true][given]);
+        print_met_of("feeds with a wrong size and ", records[given], drive->fed_broken[false][given]);
+        print_met_of("feeds with a broken state and ", records[given], drive->fed_broken[true][given]);
     }
     print_met("feeds of the rarest length up to three records and a byte",
               rarest(drive->fed_lengths, sizeof drive->fed_lengths / sizeof drive->fed_lengths[0]));
@@ -314,9 +309,7 @@ static void print_reader_met(const struct drive *drive)
     for (unsigned answer = 0; answer < REFUSALS; answer++) {
         if (answer == 13)
             continue; /* no refusal's */
-        print_text("step with answer ");
-        print_number(answer);
-        print_met("", drive->steps[answer]);
+        print_met_with("step with answer ", answer, drive->steps[answer]);
     }
     print_met("finish with answer 0", drive->finishes[LPMAG_OK]);
     print_met("finish with answer 1", drive->finishes[1]);
@@ -361,20 +354,15 @@ static uint64_t rarest_second(const struct drive *drive)
 
 void print_all_met(const struct drive *drive)
 {
-    for (enum function function = 0; function < FUNCTIONS; function++) {
-        print_text("equal calls of ");
-        print_met(function_name(function), drive->calls[function]);
-    }
+    for (enum function function = 0; function < FUNCTIONS; function++)
+        print_met_of("equal calls of ", function_name(function), drive->calls[function]);
     print_met("rooms that had to stay as found", drive->kept_rooms);
     print_met("ranges lent that had to stay as found", drive->kept_ranges);
     print_met("rooms of another size, refusal 1", drive->refusals[1]);
     print_met("records", drive->records);
     print_met("records that pass", drive->refusals[0]);
-    for (unsigned number = 2; number <= 11; number++) {
-        print_text("records with refusal ");
-        print_number(number);
-        print_met("", drive->refusals[number]);
-    }
+    for (unsigned number = 2; number <= 11; number++)
+        print_met_with("records with refusal ", number, drive->refusals[number]);
     print_met("real-time packets, of the rarest type among 0 to 35", rarest(drive->kinds, 36));
     print_met("half bursts", drive->kinds[LPMAG_HALF_BURST]);
     print_met("full bursts", drive->kinds[LPMAG_FULL_BURST]);

@@ -186,7 +186,7 @@ static void compare_example(struct drive *drive, const struct example *example, 
             compare_refused(drive, &reader, count++);
         } else if (make_word(&drive->random, &text, count++, &input)) {
             if (fed) {
-                compare_fed_whole(drive, &reader, &input);
+                compare_fed_whole(drive, &reader, &input, LPMAG_OK);
                 expect_snapshots(drive, FEED, &coming, reader_fed(&reader).closed);
             } else {
                 compare_step(drive, &reader, &input, LPMAG_OK);
@@ -334,10 +334,7 @@ static void compare_second_codes(struct drive *drive)
                 input.record[LPMAG_PACKET_AT + 85] = (uint8_t)byte;
                 bool refused = code >= TOP_BIT && !is_burst_type(byte % 64);
                 reader_make(random, &reader, &state);
-                if (random_once_in(random, 4))
-                    compare_feed_of(drive, &reader, &input, refused ? 11 : LPMAG_OK);
-                else
-                    compare_step(drive, &reader, &input, refused ? 11 : LPMAG_OK);
+                compare_taken(drive, &reader, &input, refused ? 11 : LPMAG_OK, 4);
             }
 }
 

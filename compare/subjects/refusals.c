@@ -183,10 +183,7 @@ static void compare_rules_broken(struct drive *drive, uint32_t rules)
             break_rule_1(random, &reader);
         lowest = rule;
     }
-    if (input.length == LPMAG_RECORD && random_once_in(random, 4))
-        compare_feed_of(drive, &reader, &input, lowest);
-    else
-        compare_step(drive, &reader, &input, lowest);
+    compare_taken(drive, &reader, &input, lowest, 4);
 }
 
 static void compare_several_rules_broken(struct drive *drive)

@@ -25,10 +25,7 @@ static void compare_next_input(struct drive *drive, const struct lpmag_state *st
 {
     static struct reader reader;
     reader_make(&drive->random, &reader, state);
-    if (random_once_in(&drive->random, 8))
-        compare_feed_of(drive, &reader, input, expected_step(state, count));
-    else
-        compare_step(drive, &reader, input, expected_step(state, count));
+    compare_taken(drive, &reader, input, expected_step(state, count), 8);
     if (random_once_in(&drive->random, 2))
         compare_finish(drive, &reader, expected_finish(&reader.state));
 }
@@ -167,10 +164,7 @@ static void compare_bytes(struct drive *drive, struct reader *reader, const uint
     memcpy(&state, bytes, sizeof state);
     reader_set(reader, &state);
     input_make(random, &input, state.last + 1, any_type(random));
-    if (random_once_in(random, 4))
-        compare_feed_of(drive, reader, &input, expected_step(&state, input.content.count));
-    else
-        compare_step(drive, reader, &input, expected_step(&state, input.content.count));
+    compare_taken(drive, reader, &input, expected_step(&state, input.content.count), 4);
     if (random_once_in(random, 4))
         compare_finish(drive, reader, expected_finish(&reader->state));
 }

@@ -95,7 +95,6 @@ static void compare_example(struct drive *drive, const struct lpmag_state *state
                             uint8_t answer, uint32_t its_turn)
 {
     static struct reader reader;
-    static struct row row;
     struct random *random = &drive->random;
     struct input input;
     input_make(random, &input, count, any_type(random));
@@ -104,10 +103,8 @@ static void compare_example(struct drive *drive, const struct lpmag_state *state
     if (answer == LPMAG_OK)
         expect_full(drive, &reader, STEP, its_turn, count);
 
-    row_clear(&row);
-    row_add(&row, &input, answer);
     reader_make(random, &reader, state);
-    compare_feed(drive, &reader, &row, 0, LPMAG_RECORD);
+    compare_fed_whole(drive, &reader, &input, answer);
     if (answer == LPMAG_OK)
         expect_full(drive, &reader, FEED, its_turn, count);
 }
