@@ -13,10 +13,28 @@ static uint8_t carrier_of_byte(size_t place)
     return (uint8_t)(place / LPMAG_BURST);
 }
 
-const struct whole accumulation = {"the cells were changed", LPMAG_CELLS, CELLS,     TYPES,
-                                   carrier_of_cell,          64,          MOST_MARKS};
-const struct whole snapshot = {
-    "the snapshot was changed", LPMAG_SNAPSHOT, LPMAG_SNAPSHOT, PACKETS, carrier_of_byte, 32, 90};
+enum { LARGEST = 4096 };
+static const size_t sizes_of_cells[] = {0, 1, 2987, 2988, 2996, 2997, 2998, LARGEST};
+static const size_t sizes_of_bytes[] = {0, 1, 82, 1558, 1639, 1640, 1641, 1722, 2997, LARGEST};
+
+const struct whole accumulation = {.changed = "the cells were changed",
+                                   .length = LPMAG_CELLS,
+                                   .places = CELLS,
+                                   .types = TYPES,
+                                   .carrier = carrier_of_cell,
+                                   .bits = 64,
+                                   .marks = MOST_MARKS,
+                                   .sizes = sizes_of_cells,
+                                   .size_count = sizeof sizes_of_cells / sizeof sizes_of_cells[0]};
+const struct whole snapshot = {.changed = "the snapshot was changed",
+                               .length = LPMAG_SNAPSHOT,
+                               .places = LPMAG_SNAPSHOT,
+                               .types = PACKETS,
+                               .carrier = carrier_of_byte,
+                               .bits = 32,
+                               .marks = 90,
+                               .sizes = sizes_of_bytes,
+                               .size_count = sizeof sizes_of_bytes / sizeof sizes_of_bytes[0]};
 
 struct asked lend_asked(struct drive *drive, const struct whole *whole, const uint8_t *made, size_t length,
                         uint64_t held)
@@ -127,4 +145,32 @@ size_t make_numbers(size_t last, size_t *numbers)
     for (size_t i = 0; i < sizeof others / sizeof others[0]; i++)
         numbers[made++] = others[i];
     return made;
+}
+
+/* ---- how it is asked -------------------------------------------------- */
+
+void ask_with_marks(struct drive *drive, const struct whole *whole, enum function function, ask *ask)
+{
+    uint64_t marks[MOST_MARKS];
+    uint8_t made[LARGEST];
+    make_marks(&drive->random, whole, marks);
+    for (size_t i = 0; i < whole->marks; i++) {
+        struct asked asked = lend_any(drive, whole, made, marks[i]);
+        ask(drive, &asked);
+        expect_unchanged(drive, function, &asked);
+    }
+}
+
+void ask_of_sizes(struct drive *drive, const struct whole *whole, enum function function, ask *ask)
+{
+    uint64_t marks[MOST_MARKS];
+    uint8_t made[LARGEST];
+    make_marks(&drive->random, whole, marks);
+    random_fill(&drive->random, made, sizeof made);
+    for (size_t i = 0; i < whole->size_count; i++)
+        for (size_t j = 0; j < whole->marks; j++) {
+            struct asked asked = lend_asked(drive, whole, made, whole->sizes[i], marks[j]);
+            ask(drive, &asked);
+            expect_unchanged(drive, function, &asked);
+        }
 }

@@ -16,6 +16,8 @@ struct whole {
     uint8_t (*carrier)(size_t place); /* which of the types does */
     unsigned bits;                    /* of the number that has the marks */
     size_t marks;                     /* how many to ask with */
+    const size_t *sizes;              /* to ask about, right and wrong */
+    size_t size_count;
 };
 extern const struct whole accumulation, snapshot;
 
@@ -78,5 +80,14 @@ void make_marks(struct random *random, const struct whole *whole, uint64_t *mark
  * leaves 64 bits, or that only their low bits are small. Answers how many. */
 enum { MOST_NUMBERS = 3200 };
 size_t make_numbers(size_t last, size_t *numbers);
+
+/* ---- how it is asked -------------------------------------------------- */
+
+/* What is asked about one, the last by that function; then it has to be as made. */
+typedef void ask(struct drive *drive, const struct asked *asked);
+
+/* With every mark: about any bytes of the right length; about those of each size. */
+void ask_with_marks(struct drive *drive, const struct whole *whole, enum function function, ask *ask);
+void ask_of_sizes(struct drive *drive, const struct whole *whole, enum function function, ask *ask);
 
 #endif

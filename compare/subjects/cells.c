@@ -134,39 +134,28 @@ static void compare_cell(struct drive *drive, const struct asked *asked, size_t 
         drive->cells_absent[cell]++;
 }
 
-static void compare_cells(struct drive *drive)
+static void ask_every_cell(struct drive *drive, const struct asked *asked)
 {
     static size_t numbers[MOST_NUMBERS];
     size_t count = make_numbers(3100, numbers);
-    uint64_t marks[MOST_MARKS];
-    uint8_t made[LPMAG_CELLS];
-    begin(drive, "raw cells at every place and past the end, with every held mark");
-    for (unsigned i = 0; i < 2; i++) {
-        make_marks(&drive->random, &accumulation, marks);
-        for (size_t j = 0; j < accumulation.marks; j++) {
-            struct asked asked = lend_any(drive, &accumulation, made, marks[j]);
-            for (size_t k = 0; k < count; k++)
-                compare_cell(drive, &asked, numbers[k]);
-            expect_unchanged(drive, CELL, &asked);
-        }
-    }
+    for (size_t i = 0; i < count; i++)
+        compare_cell(drive, asked, numbers[i]);
 }
 
-static void compare_cells_of_sizes(struct drive *drive)
+static void ask_some_cells(struct drive *drive, const struct asked *asked)
 {
-    static const size_t lengths[] = {0, 1, 2987, 2988, 2996, 2997, 2998, 4096};
-    uint64_t marks[MOST_MARKS];
-    uint8_t made[4096];
+    for (size_t cell = 0; cell <= CELLS; cell += 1 + random_below(&drive->random, 200))
+        compare_cell(drive, asked, cell);
+}
+
+static void compare_cells(struct drive *drive)
+{
+    begin(drive, "raw cells at every place and past the end, with every held mark");
+    for (unsigned i = 0; i < 2; i++)
+        ask_with_marks(drive, &accumulation, CELL, ask_every_cell);
+
     begin(drive, "raw cells of accumulations of many sizes");
-    make_marks(&drive->random, &accumulation, marks);
-    random_fill(&drive->random, made, sizeof made);
-    for (size_t i = 0; i < sizeof lengths / sizeof lengths[0]; i++)
-        for (size_t j = 0; j < accumulation.marks; j++) {
-            struct asked asked = lend_asked(drive, &accumulation, made, lengths[i], marks[j]);
-            for (size_t cell = 0; cell <= CELLS; cell += 1 + random_below(&drive->random, 200))
-                compare_cell(drive, &asked, cell);
-            expect_unchanged(drive, CELL, &asked);
-        }
+    ask_of_sizes(drive, &accumulation, CELL, ask_some_cells);
 }
 
 /* ---- the samples of a bin --------------------------------------------- */
@@ -196,6 +185,5 @@ void drive_cells(struct drive *drive)
     for (unsigned i = 0; i < 300; i++)
         compare_accumulation(drive);
     compare_cells(drive);
-    compare_cells_of_sizes(drive);
     compare_bins(drive);
 }

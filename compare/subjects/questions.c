@@ -92,22 +92,19 @@ static struct asked lend_cells(struct drive *drive, const uint8_t *made)
 
 /* ---- samples ---------------------------------------------------------- */
 
+static void ask_every_sample(struct drive *drive, const struct asked *asked)
+{
+    for (size_t bin = 0; bin < BINS; bin++)
+        for (size_t number = 0; number < layout()->samples[bin]; number++)
+            for (size_t angle = 0; angle < SAMPLE_ANGLES; angle++)
+                compare_sample(drive, asked, bin, number, angle);
+}
+
 static void compare_every_sample(struct drive *drive)
 {
-    uint64_t marks[MOST_MARKS];
-    uint8_t made[LPMAG_CELLS];
     begin(drive, "samples at every place, with every held mark");
-    for (unsigned i = 0; i < 3; i++) {
-        make_marks(&drive->random, &accumulation, marks);
-        for (size_t j = 0; j < accumulation.marks; j++) {
-            struct asked asked = lend_any(drive, &accumulation, made, marks[j]);
-            for (size_t bin = 0; bin < BINS; bin++)
-                for (size_t number = 0; number < layout()->samples[bin]; number++)
-                    for (size_t angle = 0; angle < SAMPLE_ANGLES; angle++)
-                        compare_sample(drive, &asked, bin, number, angle);
-            expect_unchanged(drive, ELECTRON_SAMPLE, &asked);
-        }
-    }
+    for (unsigned i = 0; i < 3; i++)
+        ask_with_marks(drive, &accumulation, ELECTRON_SAMPLE, ask_every_sample);
 }
 
 static void compare_samples_past_the_end(struct drive *drive)
@@ -185,22 +182,21 @@ static void compare_shared_bands(struct drive *drive)
 
 /* ---- 3D --------------------------------------------------------------- */
 
-static void compare_every_three_d(struct drive *drive)
+static void ask_every_three_d(struct drive *drive, const struct asked *asked)
 {
     static size_t steps[MOST_NUMBERS], angles[MOST_NUMBERS];
     size_t step_count = make_numbers(16, steps);
     size_t angle_count = make_numbers(90, angles);
-    uint64_t marks[MOST_MARKS];
+    for (size_t step = 0; step < step_count; step++)
+        for (size_t angle = 0; angle < angle_count; angle++)
+            compare_three_d(drive, asked, steps[step], angles[angle]);
+}
+
+static void compare_every_three_d(struct drive *drive)
+{
     uint8_t made[LPMAG_CELLS];
     begin(drive, "3D at every step and angle, past the last and at huge ones, with every held mark");
-    make_marks(&drive->random, &accumulation, marks);
-    for (size_t i = 0; i < accumulation.marks; i++) {
-        struct asked asked = lend_any(drive, &accumulation, made, marks[i]);
-        for (size_t step = 0; step < step_count; step++)
-            for (size_t angle = 0; angle < angle_count; angle++)
-                compare_three_d(drive, &asked, steps[step], angles[angle]);
-        expect_unchanged(drive, THREE_D, &asked);
-    }
+    ask_with_marks(drive, &accumulation, THREE_D, ask_every_three_d);
 
     begin(drive, "every code at every step and angle of 3D");
     for (unsigned code = 0; code < 256; code++) {
@@ -237,26 +233,21 @@ static void compare_every_total_and_rate(struct drive *drive)
 
 /* ---- sizes ------------------------------------------------------------ */
 
+static void ask_some(struct drive *drive, const struct asked *asked)
+{
+    compare_total_and_rate(drive, asked);
+    for (size_t i = 0; i <= BINS; i++) {
+        size_t angle = random_below(&drive->random, SAMPLE_ANGLES + 1);
+        compare_sample(drive, asked, i, random_below(&drive->random, 5), angle);
+        angle = random_below(&drive->random, STEP_ANGLES + 1);
+        compare_three_d(drive, asked, i, angle);
+    }
+}
+
 static void compare_sizes(struct drive *drive)
 {
-    static const size_t lengths[] = {0, 1, 2987, 2988, 2996, 2997, 2998, 4096};
-    uint64_t marks[MOST_MARKS];
-    uint8_t made[4096];
     begin(drive, "the questions with accumulations of many sizes");
-    make_marks(&drive->random, &accumulation, marks);
-    random_fill(&drive->random, made, sizeof made);
-    for (size_t i = 0; i < sizeof lengths / sizeof lengths[0]; i++)
-        for (size_t j = 0; j < accumulation.marks; j++) {
-            struct asked asked = lend_asked(drive, &accumulation, made, lengths[i], marks[j]);
-            compare_total_and_rate(drive, &asked);
-            for (size_t k = 0; k <= BINS; k++) {
-                size_t angle = random_below(&drive->random, SAMPLE_ANGLES + 1);
-                compare_sample(drive, &asked, k, random_below(&drive->random, 5), angle);
-                angle = random_below(&drive->random, STEP_ANGLES + 1);
-                compare_three_d(drive, &asked, k, angle);
-            }
-            expect_unchanged(drive, THREE_D, &asked);
-        }
+    ask_of_sizes(drive, &accumulation, THREE_D, ask_some);
 }
 
 void drive_questions(struct drive *drive)

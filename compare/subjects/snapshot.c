@@ -95,44 +95,38 @@ static void compare_total_and_rate(struct drive *drive, const struct asked *aske
 
 /* ---- the questions ---------------------------------------------------- */
 
-static void compare_bytes(struct drive *drive)
+static void ask_every_byte(struct drive *drive, const struct asked *asked)
 {
     static size_t numbers[MOST_NUMBERS];
     size_t count = make_numbers(1700, numbers);
-    uint64_t marks[MOST_MARKS];
-    uint8_t made[LPMAG_SNAPSHOT];
-    begin(drive, "bytes of a snapshot at every place, past the last and at huge ones, with every held mark");
-    make_marks(&drive->random, &snapshot, marks);
-    for (size_t i = 0; i < snapshot.marks; i++) {
-        struct asked asked = lend_any(drive, &snapshot, made, marks[i]);
-        for (size_t j = 0; j < count; j++)
-            compare_byte(drive, &asked, numbers[j]);
-        expect_unchanged(drive, SNAPSHOT_BYTE, &asked);
-    }
+    for (size_t i = 0; i < count; i++)
+        compare_byte(drive, asked, numbers[i]);
 }
 
-static void compare_counts_of(struct drive *drive)
+/* Up to past the last row and angle of a table, and at huge ones. */
+static void ask_every_count_in(struct drive *drive, const struct asked *asked, const struct table *table,
+                               size_t last_angle)
 {
-    static size_t steps[MOST_NUMBERS], angles[MOST_NUMBERS], energies[MOST_NUMBERS], pitches[MOST_NUMBERS];
-    size_t step_count = make_numbers(16, steps);
-    size_t angle_count = make_numbers(90, angles);
-    size_t energy_count = make_numbers(16, energies);
-    size_t pitch_count = make_numbers(17, pitches);
-    uint64_t marks[MOST_MARKS];
-    uint8_t made[LPMAG_SNAPSHOT];
-    begin(drive, "3D and pitch angle data of a snapshot at every place, past the last and at huge ones, "
-                 "with every held mark");
-    make_marks(&drive->random, &snapshot, marks);
-    for (size_t i = 0; i < snapshot.marks; i++) {
-        struct asked asked = lend_any(drive, &snapshot, made, marks[i]);
-        for (size_t j = 0; j < step_count; j++)
-            for (size_t k = 0; k < angle_count; k++)
-                compare_in(drive, &asked, &three_d, steps[j], angles[k]);
-        for (size_t j = 0; j < energy_count; j++)
-            for (size_t k = 0; k < pitch_count; k++)
-                compare_in(drive, &asked, &pitch, energies[j], pitches[k]);
-        expect_unchanged(drive, SNAPSHOT_PITCH, &asked);
-    }
+    static size_t rows[MOST_NUMBERS], angles[MOST_NUMBERS];
+    size_t row_count = make_numbers(16, rows);
+    size_t angle_count = make_numbers(last_angle, angles);
+    for (size_t i = 0; i < row_count; i++)
+        for (size_t j = 0; j < angle_count; j++)
+            compare_in(drive, asked, table, rows[i], angles[j]);
+}
+
+static void ask_every_count(struct drive *drive, const struct asked *asked)
+{
+    ask_every_count_in(drive, asked, &three_d, 90);
+    ask_every_count_in(drive, asked, &pitch, 17);
+}
+
+static void ask_every_angle(struct drive *drive, const struct asked *asked)
+{
+    static size_t numbers[MOST_NUMBERS];
+    size_t count = make_numbers(8, numbers);
+    for (size_t i = 0; i < count; i++)
+        compare_angle(drive, asked, numbers[i]);
 }
 
 /* Every code at every place; the pre-scale state, header byte 1, goes through all its values too, and
@@ -172,44 +166,15 @@ static void compare_every_total_and_rate(struct drive *drive)
     }
 }
 
-static void compare_angles(struct drive *drive)
+static void ask_some(struct drive *drive, const struct asked *asked)
 {
-    static size_t numbers[MOST_NUMBERS];
-    size_t count = make_numbers(8, numbers);
-    uint64_t marks[MOST_MARKS];
-    uint8_t made[LPMAG_SNAPSHOT];
-    begin(drive, "magnetic angles of a snapshot, past the last and at huge ones, with every held mark");
-    for (unsigned i = 0; i < 4; i++) {
-        make_marks(&drive->random, &snapshot, marks);
-        for (size_t j = 0; j < snapshot.marks; j++) {
-            struct asked asked = lend_any(drive, &snapshot, made, marks[j]);
-            for (size_t k = 0; k < count; k++)
-                compare_angle(drive, &asked, numbers[k]);
-            expect_unchanged(drive, SNAPSHOT_ANGLE, &asked);
-        }
+    compare_total_and_rate(drive, asked);
+    for (size_t i = 0; i <= STEPS; i++) {
+        compare_byte(drive, asked, random_below(&drive->random, LPMAG_SNAPSHOT + 8));
+        compare_in(drive, asked, &three_d, i, random_below(&drive->random, STEP_ANGLES + 1));
+        compare_in(drive, asked, &pitch, i, random_below(&drive->random, PITCH_ANGLES + 1));
+        compare_angle(drive, asked, i % 5);
     }
-}
-
-static void compare_sizes(struct drive *drive)
-{
-    static const size_t lengths[] = {0, 1, 82, 1558, 1639, 1640, 1641, 1722, 2997, 4096};
-    uint64_t marks[MOST_MARKS];
-    uint8_t made[4096];
-    begin(drive, "the questions about snapshots of many sizes");
-    make_marks(&drive->random, &snapshot, marks);
-    random_fill(&drive->random, made, sizeof made);
-    for (size_t i = 0; i < sizeof lengths / sizeof lengths[0]; i++)
-        for (size_t j = 0; j < snapshot.marks; j++) {
-            struct asked asked = lend_asked(drive, &snapshot, made, lengths[i], marks[j]);
-            compare_total_and_rate(drive, &asked);
-            for (size_t k = 0; k <= STEPS; k++) {
-                compare_byte(drive, &asked, random_below(&drive->random, LPMAG_SNAPSHOT + 8));
-                compare_in(drive, &asked, &three_d, k, random_below(&drive->random, STEP_ANGLES + 1));
-                compare_in(drive, &asked, &pitch, k, random_below(&drive->random, PITCH_ANGLES + 1));
-                compare_angle(drive, &asked, k % 5);
-            }
-            expect_unchanged(drive, SNAPSHOT_ANGLE, &asked);
-        }
 }
 
 void drive_snapshot(struct drive *drive)
@@ -217,10 +182,16 @@ void drive_snapshot(struct drive *drive)
     if (!second_snapshot_whole())
         fail(1, "compare: the second's table of 000, section 2.4.1, doesn't give 82 bytes to a packet and "
                 "each of the 1,640 once");
-    compare_bytes(drive);
-    compare_counts_of(drive);
+    begin(drive, "bytes of a snapshot at every place, past the last and at huge ones, with every held mark");
+    ask_with_marks(drive, &snapshot, SNAPSHOT_BYTE, ask_every_byte);
+    begin(drive, "3D and pitch angle data of a snapshot at every place, past the last and at huge ones, "
+                 "with every held mark");
+    ask_with_marks(drive, &snapshot, SNAPSHOT_PITCH, ask_every_count);
     compare_every_code(drive);
     compare_every_total_and_rate(drive);
-    compare_angles(drive);
-    compare_sizes(drive);
+    begin(drive, "magnetic angles of a snapshot, past the last and at huge ones, with every held mark");
+    for (unsigned i = 0; i < 4; i++)
+        ask_with_marks(drive, &snapshot, SNAPSHOT_ANGLE, ask_every_angle);
+    begin(drive, "the questions about snapshots of many sizes");
+    ask_of_sizes(drive, &snapshot, SNAPSHOT_ANGLE, ask_some);
 }

@@ -5,19 +5,24 @@
 
 #include "driver/drive.h"
 
-#define SUBJECTS(SUBJECT)                                                                         \
-    SUBJECT(words)                                                                                \
-    SUBJECT(record)                                                                               \
-    SUBJECT(mag)                                                                                  \
-    SUBJECT(cells)                                                                                \
-    SUBJECT(counts)                                                                               \
-    SUBJECT(questions)                                                                            \
-    SUBJECT(snapshot)                                                                             \
-    SUBJECT(reader)                                                                               \
-    SUBJECT(bursts)                                                                               \
-    SUBJECT(turns)                                                                                \
-    SUBJECT(feed) SUBJECT(sent) SUBJECT(states) SUBJECT(structs) SUBJECT(refusals) SUBJECT(major) \
-        SUBJECT(layer)
+#define SUBJECTS(SUBJECT) \
+    SUBJECT(words)        \
+    SUBJECT(record)       \
+    SUBJECT(mag)          \
+    SUBJECT(cells)        \
+    SUBJECT(counts)       \
+    SUBJECT(questions)    \
+    SUBJECT(snapshot)     \
+    SUBJECT(reader)       \
+    SUBJECT(bursts)       \
+    SUBJECT(turns)        \
+    SUBJECT(feed)         \
+    SUBJECT(sent)         \
+    SUBJECT(states)       \
+    SUBJECT(structs)      \
+    SUBJECT(refusals)     \
+    SUBJECT(major)        \
+    SUBJECT(layer)
 
 #define DECLARED(subject) void drive_##subject(struct drive *drive);
 SUBJECTS(DECLARED)
