@@ -16,9 +16,9 @@ if [ ! -x "$toolchain/bin/clang" ] || [ ! -x "$link" ]; then
 fi
 freestanding=$(cd "$(dirname "${BASH_SOURCE[0]}")" && pwd)/freestanding
 
-# compile_c SOURCE OBJECT
+# compile_c SOURCE OBJECT [OPTION...]
 compile_c() {
     "$toolchain/bin/clang" --target="$target" -std=c11 -O3 -ffreestanding \
         -Wall -Wextra -Wpedantic -Wshadow -Wconversion -Werror \
-        -I "$freestanding" -c "$1" -o "$2"
+        -I "$freestanding" "${@:3}" -c "$1" -o "$2"
 }
