@@ -1,8 +1,11 @@
 pub mod Structs
 pub mod Borrows
+pub mod Locals
+pub mod Rest
+pub mod Params
+pub mod Handing
 pub mod Kit
-pub mod Reading
-pub mod Ending
+pub mod Storing
 pub mod Filling
 pub mod Asking
 pub mod Seeking
