@@ -5,7 +5,7 @@ pub mod Rest
 pub mod Params
 pub mod Handing
 pub mod Kit
+pub mod Shapes
 pub mod Storing
+pub mod Looking
 pub mod Filling
-pub mod Asking
-pub mod Seeking

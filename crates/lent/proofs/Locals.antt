@@ -14,7 +14,7 @@ use prog.Wp.{Heap, Env, Spot, walk}
 use ghost.Atoms.{Atoms}
 use types.Kit.{Goal, allocs, frees, Seq, Step, step, Given, Item, ‵, raw, _⊛_, mean, ⋆, _$_, _∵_, !, qed, move, split, join, drop, use1, use2, frame}
 use types.Kit.{each, assume, done}
-use types.Run.{Walks, Finds, forget, alloc1, free1}
+use types.Run.{Walks, Finds, Reads, forget, alloc1, free1}
 use types.Part.{Part}
 use denote.Steps.{nothing}
 
@@ -86,6 +86,10 @@ module _ {M : Type 1} (𝓤 : URA M) where
   held [] bs vs = ‵ ftrue
   held (local τ h ∷ ls) bs vs = (‵ (fat fullShare τ (bs .0) zero (vs .0)) ⊛ ‵ (fdies τ (bs .0))) ⊛ held ls (bs .1) (vs .1)
 
+-- what is within an entry can be read
+pub record Inside {M : Type 1} {𝓤 : URA M} {H : Heap 𝓤} {A : Atoms 𝓤} (K : Type 0) (W : Given 𝓤 H A) (Γ : List (Item 𝓤)) (i : Item 𝓤) : Type 2 where
+  pub read : {q : Share} {τ : Ty} {b o : ℕ} {v : Val} {back : Val → Item 𝓤} → Part K W i q τ b o v back → Reads K W Γ τ b o v
+
 module _ {M : Type 1} {𝓤 : URA M} {H : Heap 𝓤} {A : Atoms 𝓤} {K : Type 0} {W : Given 𝓤 H A} where
   pub alloc-all : {Γ : List (Item 𝓤)} → K → (ls ls′ : List Local) {Kt : Env 𝓤 H → Goal 𝓤 H}
       → ((bs : Spots ls) → Seq K W (rooms 𝓤 ls bs ∷ Γ) (allocs ls′ (λ E. Kt (envIn ls bs E)))) → Seq K W Γ (allocs (ls ++ ls′) Kt)
@@ -93,16 +97,15 @@ module _ {M : Type 1} {𝓤 : URA M} {H : Heap 𝓤} {A : Atoms 𝓤} {K : Type 
   alloc-all t (local τ h ∷ ls) ls′ k =
       alloc1 t (λ b. alloc-all t ls ls′ (λ bs. move t (1 ∷ 2 ∷ []) $ join t $ join t $ k (b, bs)))
 
-  pub free-all : {Γ : List (Item 𝓤)} {E : Env 𝓤 H} {G : Goal 𝓤 H} → K → (ls : List Local) (bs : Spots ls)
-      → Step K W Γ (frees E G) (rooms 𝓤 ls bs ∷ Γ) (frees (envIn ls bs E) G)
-  free-all t [] bs = drop t
-  free-all t (local τ h ∷ ls) bs = step (λ s. split t $ split t $ free1 t $ free-all t ls (bs .1) $ s)
+  -- freed, whatever they hold
+  pub gone : {Γ : List (Item 𝓤)} {E : Env 𝓤 H} {G : Goal 𝓤 H} → K → {τ : Ty} {b : ℕ} {v : Val}
+      → Step K W Γ (frees E G) (‵ (fat fullShare τ b zero v) ∷ ‵ (fdies τ b) ∷ Γ) (frees ((τ, b) ∷ E) G)
+  gone t = step (λ s. forget t 0 refl $ free1 t $ s)
 
-  pub empties : {Γ : List (Item 𝓤)} {G : Goal 𝓤 H} → K → (ls : List Local) (bs : Spots ls) (vs : Fill ls)
-      → Step K W (rooms 𝓤 ls bs ∷ Γ) G (held 𝓤 ls bs vs ∷ Γ) G
-  empties t [] bs vs = step (λ s. s)
-  empties t (local τ h ∷ ls) bs vs =
-      step (λ s. split t $ split t $ forget t 0 refl $ move t (2 ∷ []) $ empties t ls (bs .1) (vs .1) $ move t (1 ∷ 2 ∷ []) $ join t $ join t $ s)
+  pub free-all : {Γ : List (Item 𝓤)} {E : Env 𝓤 H} {G : Goal 𝓤 H} → K → (ls : List Local) (bs : Spots ls) (vs : Fill ls)
+      → Step K W Γ (frees E G) (held 𝓤 ls bs vs ∷ Γ) (frees (envIn ls bs E) G)
+  free-all t [] bs vs = drop t
+  free-all t (local τ h ∷ ls) bs vs = step (λ s. split t $ split t $ gone t $ free-all t ls (bs .1) (vs .1) $ s)
 
   -- a cell within a part of an entry is within the entry
   module _ {i : Item 𝓤} {q : Share} {τ : Ty} {b o : ℕ} {v : Val} {back : Val → Item 𝓤} (j : Item 𝓤) (p : Part K W i q τ b o v back) where
@@ -128,10 +131,17 @@ module _ {M : Type 1} {𝓤 : URA M} {H : Heap 𝓤} {A : Atoms 𝓤} {K : Type 
     pub in-right : Part K W (j ⊛ i) q τ b o v (λ u. j ⊛ back u)
     in-right = within (λ k. j ⊛ k) (λ k. comm∗ 𝓤 (mean 𝓤 H A j) (mean 𝓤 H A k)) (λ k. comm∗ 𝓤 (mean 𝓤 H A k) (mean 𝓤 H A j))
 
-  module _ {Γ : List (Item 𝓤)} {E : Env 𝓤 H} where
+  module _ {Γ : List (Item 𝓤)} where
     -- a local that is known to stand at a number
-    pub from-at : K → {n : ℕ} {τ : Ty} {b : ℕ} {st : List PStep} {sp : Spot 𝓤 H} → At E n τ b → Walks K W Γ E (τ, b, zero) st sp
+    pub from-at : K → {E : Env 𝓤 H} {n : ℕ} {τ : Ty} {b : ℕ} {st : List PStep} {sp : Spot 𝓤 H} → At E n τ b → Walks K W Γ E (τ, b, zero) st sp
         → Finds K W Γ E (place n st) sp
-    from-at t {st = st} e w = record {
+    from-at t {E} {st = st} e w = record {
       go = λ Kt h. subst (λ (x : Ty × ℕ). ent 𝓤 (⋆ 𝓤 H A Γ) (walk 𝓤 H E (x .0, x .1, zero) st Kt)) (sym e) (w .go Kt h);
     }
+
+    -- so can what is within a part of it
+    pub left-of : {i j : Item 𝓤} → Inside K W Γ (i ⊛ j) → Inside K W Γ i
+    left-of {j = j} inside = record { read = λ p. inside .read (in-left j p) }
+
+    pub right-of : {i j : Item 𝓤} → Inside K W Γ (i ⊛ j) → Inside K W Γ j
+    right-of {i} inside = record { read = λ p. inside .read (in-right i p) }

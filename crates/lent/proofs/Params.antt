@@ -17,7 +17,7 @@ use denote.Builtin.{u8, i16, usize}
 use denote.Ref.{RefT, MutRef, mut-tells}
 use denote.Slice.{MutSlice, ShrSlice, sliceTy, sliceVal, mut-slice-tells, shr-slice-tells}
 use Rattle.lent.proofs.Structs.{fit}
-use Rattle.lent.proofs.Locals.{from-at, in-left, in-right}
+use Rattle.lent.proofs.Locals.{from-at, left-of, right-of}
 use Rattle.lent.proofs.Rest.{Anew, More}
 
 abbrev as-it-is : (D : Type 0) (τ : Lifetime → Ty) (val : D → Val) → Anew D τ val
@@ -41,7 +41,7 @@ anew-place X τ = record {
       -- [the local's room and death; nothing; the parameter's cell]
       assigns k (addr k (from-at k e (hop k (look k 3 refl) (stop k)))) (from-at k (sits .0) (stop k)) (init k 0 refl (tt, tt)) $
       join k $ join k $ move k (1 ∷ 0 ∷ []) $ s);
-  handed = λ k ℓ p t b ts x e sits cell inside. load k (from-at k (sits .0) (stop k)) (inside _ _ _ _ _ _ (in-left _ (in-left _ (whole k))));
+  handed = λ k ℓ p t b ts x e sits cell inside. load k (from-at k (sits .0) (stop k)) (left-of (left-of inside) .read (whole k));
 }
 
 abbrev anew-slice : (X : Type 0) (τ : Ty) → Anew (RefT (List X)) (λ ℓ. sliceTy (tyRef ℓ mut τ)) (λ x. sliceVal (x .ptr) (length (x .now)))
@@ -62,7 +62,7 @@ anew-slice X τ = record {
       (init k 0 refl (tt, typed .1)) $
       join k $ join k $ move k (1 ∷ 2 ∷ []) $ join k $ join k $ move k (1 ∷ 0 ∷ []) $ s);
   handed = λ k ℓ p t b ts x e sits cell inside.
-      load k (from-at k (sits .1 .0) (stop k)) (inside _ _ _ _ _ _ (in-right _ (in-left _ (in-left _ (whole k)))));
+      load k (from-at k (sits .1 .0) (stop k)) (left-of (left-of (right-of inside)) .read (whole k));
 }
 
 -- `&mut [R]`
@@ -79,7 +79,6 @@ writes R = record {
   tells = λ κ. mut-slice-tells erased κ R;
   typed = λ ℓ κ x p. (tt, (tt, (fit (p .0 .1 .0), tt)));
   anew = anew-slice (R .Denot) (pointee (R .written));
-  changes = true;
   View = List (R .Denot);
   seen = λ x. x .now;
   last = λ y. y .now;
@@ -99,7 +98,6 @@ reads R = record {
   tells = λ κ. shr-slice-tells erased κ R;
   typed = λ ℓ κ x p. (tt, (tt, (fit (p .0 .1 .0), tt)));
   anew = as-it-is _ _ _;
-  changes = false;
   View = List (R .Denot);
   seen = λ x. x .now;
   last = λ y. y .now;
@@ -119,7 +117,6 @@ number = record {
   tells = λ κ. uint-tells w64;
   typed = λ ℓ κ x p. (tt, fit (p .1));
   anew = as-it-is _ _ _;
-  changes = false;
   View = ℕ;
   seen = λ x. x;
   last = λ y. y;
@@ -139,7 +136,6 @@ fills E = record {
   tells = λ κ. mut-tells erased κ E;
   typed = λ ℓ κ x p. (tt, tt);
   anew = anew-place (E .Denot) (pointee (E .written));
-  changes = true;
   View = E .Denot;
   seen = λ x. x .now;
   last = λ y. y .now;
@@ -151,3 +147,13 @@ buffers-alone = writes u8 ∷ writes u8 ∷ writes i16 ∷ writes i16 ∷ writes
 
 abbrev pub buffers-and-bytes : List More
 buffers-and-bytes = buffers-alone ++ (reads u8 ∷ [])
+
+abbrev pub bytes-alone : List More
+bytes-alone = reads u8 ∷ []
+
+-- a number, or samples and two numbers, and a place for the answer
+abbrev pub number-and-answer : RattleType → List More
+number-and-answer E = number ∷ fills E ∷ []
+
+abbrev pub samples-and-answer : RattleType → List More
+samples-and-answer E = reads i16 ∷ number ∷ number ∷ fills E ∷ []

@@ -13,25 +13,20 @@ use mir.Syntax.{Lifetime, named, Ty, Written, wrote, Local, Body, copy, place}
 use mir.Val.{Val, hasTy, WT}
 use base.Logic.{ent, id⊢, mono∗}
 use base.Stored.{Coded}
-use base.Fml.{Lft, Share, Fml, fat}
+use base.Fml.{Lft, Fml, fat}
 use prog.Wp.{Heap, Env, Calls, Loops}
 use ghost.Atoms.{Atoms, sem}
 use contract.Lifetimes.{Lfts}
 use types.Kit.{Given, Item, ‵, Step, Post, runs}
 use types.Run.{Opd, Reads}
-use types.Part.{Part}
-use denote.Exit.{Exit, Seen, Kept, yes, left}
+use denote.Exit.{Exit, Seen, see, yes, left}
 use denote.RattleType.{RattleType, Denots, Valss, owns}
-use denote.Laws.{Ises, Spells, valss, Tellss}
+use denote.Laws.{Ises, Are, Spells, valss, Tellss}
 use denote.Shadow.{shadow}
 use denote.Signature.{Slot, plain, typesAt}
-use denote.Triple.End.{all, Fins, Outs, outs, lastsOf}
-use denote.Triple.Walked.{Stay, Stays, fitsOf, hasOf, AllGo}
-use Rattle.lent.proofs.Locals.{Spots, Fill, At, Sits, rooms, held}
-
--- what is within an entry can be read
-abbrev pub Inside : {M : Type 1} {𝓤 : URA M} {H : Heap 𝓤} {A : Atoms 𝓤} (K : Type 0) (W : Given 𝓤 H A) → List (Item 𝓤) → Item 𝓤 → Type 2
-Inside {𝓤 = 𝓤} K W Γ i = (q : Share) (τ : Ty) (b o : ℕ) (v : Val) (back : Val → Item 𝓤) → Part K W i q τ b o v back → Reads K W Γ τ b o v
+use denote.Triple.End.{Kepts, all, Fins, Outs, outs, lastsOf}
+use denote.Triple.Walked.{Stays, fitsOf, hasOf, AllGo}
+use Rattle.lent.proofs.Locals.{Spots, Fill, At, Sits, rooms, held, Inside}
 
 -- how a parameter, local p, is handed on: as it is, or lent anew in locals of its own, t and those after it, of which one is handed on
 pub record Anew (D : Type 0) (τ : Lifetime → Ty) (val : D → Val) : Type 3 where
@@ -62,7 +57,6 @@ pub record More : Type 3 where
   pub tells : (κ : Lft) (x : D) (vs : List Val) → shadow (own κ x vs) → vs ≡ val x ∷ []
   pub typed : (ℓ : Lifetime) (κ : Lft) (x : D) → shadow (own κ x (val x ∷ [])) → T (hasTy (mir ℓ) (val x)) × WT (val x)
   pub anew : Anew D mir val
-  pub changes : Bool
   pub View : Type 0
   pub seen : D → View
   pub last : Seen (lasting true) → View
@@ -87,7 +81,7 @@ abbrev pub count : List More → ℕ
 count [] = zero
 count (m ∷ ms) = grow (m .lives) (count ms)
 
-abbrev pub mine : (b : Bool) (n : ℕ) → Lfts (grow b n) → Lft
+abbrev mine : (b : Bool) (n : ℕ) → Lfts (grow b n) → Lft
 mine true n κs = κs .0
 mine false n κs = []
 
@@ -95,168 +89,134 @@ abbrev theirs : (b : Bool) (n : ℕ) → Lfts (grow b n) → Lfts n
 theirs true n κs = κs .1
 theirs false n κs = κs
 
--- where a signature has them: it has n lifetimes, theirs are among them, and are named from i on
-pub record From (c : ℕ) : Type 0 where
+-- a signature has the list: it has n lifetimes, the list's are among them, and are named from i on
+pub record Named (ms : List More) : Type 0 where
   pub n : ℕ
-  pub at : Lfts n → Lfts c
+  pub at : Lfts n → Lfts (count ms)
   pub i : ℕ
 
-abbrev pub beyond : (b : Bool) {c : ℕ} → From (grow b c) → From c
-beyond b {c} F = record { n = F .n; at = λ κs. theirs b c (F .at κs); i = grow b (F .i) }
+abbrev then : {m : More} {ms : List More} → Named (m ∷ ms) → Named ms
+then {m} {ms} F = record { n = F .n; at = λ κs. theirs (m .lives) (count ms) (F .at κs); i = grow (m .lives) (F .i) }
 
-abbrev pub slots : (ms : List More) (F : From (count ms)) → List (Slot (F .n))
-slots [] F = []
-slots (m ∷ ms) F = plain (λ κs. rowAt m (named (F .i)) (mine (m .lives) (count ms) (F .at κs))) ∷ slots ms (beyond (m .lives) F)
+abbrev pub slots : {ms : List More} (F : Named ms) → List (Slot (F .n))
+slots {ms = []} F = []
+slots {ms = m ∷ ms} F = plain (λ κs. rowAt m (named (F .i)) (mine (m .lives) (count ms) (F .at κs))) ∷ slots (then F)
 
-abbrev pub rows : (ms : List More) (F : From (count ms)) → Lfts (F .n) → List RattleType
-rows ms F κs = typesAt {n = F .n} (slots ms F) κs
+abbrev pub kepts : {ms : List More} (F : Named ms) → Kepts (slots F)
+kepts F = all yes (slots F)
 
-abbrev pub spells : (ms : List More) (F : From (count ms)) (κs : Lfts (F .n)) → Spells (rows ms F κs)
-spells [] F κs = tt
-spells (m ∷ ms) F κs = ((λ x. m .val x ∷ []), spells ms (beyond (m .lives) F) κs)
+-- the same at the lifetimes that a caller chose
+abbrev pub Has : List More → Type 0
+Has ms = (F : Named ms) × Lfts (F .n)
 
-pub tellss : (ms : List More) (F : From (count ms)) (κs : Lfts (F .n)) → Tellss (rows ms F κs) (Ises (rows ms F κs)) (spells ms F κs)
-tellss [] F κs = tt
-tellss (m ∷ ms) F κs = (m .tells (mine (m .lives) (count ms) (F .at κs)), tellss ms (beyond (m .lives) F) κs)
+abbrev pub beyond : {m : More} {ms : List More} → Has (m ∷ ms) → Has ms
+beyond F = (then (F .0), F .1)
 
--- the machine values
-abbrev pub valsIn : (ms : List More) (F : From (count ms)) (κs : Lfts (F .n)) → Denots (rows ms F κs) → Valss (rows ms F κs)
-valsIn ms F κs a = valss (rows ms F κs) (spells ms F κs) a
+abbrev pub own-at : {m : More} {ms : List More} → Has (m ∷ ms) → Lft
+own-at {m} {ms} F = mine (m .lives) (count ms) (F .0 .at (F .1))
 
--- ---- what a clause says of them: one argument each, and at the end one for each that changes
-abbrev pub Ins : List More → Type 1 → Type 1
-Ins [] X = X
-Ins (m ∷ ms) X = m .View → Ins ms X
+abbrev pub rows : {ms : List More} → Has ms → List RattleType
+rows F = typesAt {n = F .0 .n} (slots (F .0)) (F .1)
 
-abbrev Told : Bool → Type 0 → Type 1 → Type 1
-Told true Y X = Y → X
-Told false Y X = X
+abbrev pub Passed : {ms : List More} → Has ms → Type 0
+Passed F = Denots (rows F)
 
-abbrev pub Ends : List More → Type 1 → Type 1
-Ends [] X = X
-Ends (m ∷ ms) X = Told (m .changes) (m .View) (Ends ms X)
+abbrev pub spells : {ms : List More} (F : Has ms) → Spells (rows F)
+spells {ms = []} F = tt
+spells {ms = m ∷ ms} F = ((λ x. m .val x ∷ []), spells (beyond F))
 
-abbrev told : (b : Bool) (Y : Type 0) (X : Type 1) → Told b Y X → Y → X
-told true Y X f y = f y
-told false Y X f y = f
+pub tellss : {ms : List More} (F : Has ms) → Tellss (rows F) (Ises (rows F)) (spells F)
+tellss {ms = []} F = tt
+tellss {ms = m ∷ ms} F = (m .tells (own-at F), tellss (beyond F))
 
--- that something holds for all of them
-abbrev pub EachIn : (ms : List More) (X : Type 1) → Ins ms X → (X → Type 0) → Type 0
-EachIn [] X f Q = Q f
-EachIn (m ∷ ms) X f Q = (v : m .View) → EachIn ms X (f v) Q
+-- the machine values, and what is known of them
+abbrev pub vals : {ms : List More} (F : Has ms) → Passed F → Valss (rows F)
+vals F a = valss (rows F) (spells F) a
 
-abbrev EachTold : (b : Bool) (Y : Type 0) (X : Type 1) → Told b Y X → (X → Type 0) → Type 0
-EachTold true Y X f Q = (y : Y) → Q (f y)
-EachTold false Y X f Q = Q f
+abbrev pub Known : {ms : List More} (F : Has ms) → Passed F → Type 0
+Known F a = Are (rows F) (Ises (rows F)) a (vals F a)
 
-abbrev pub EachEnd : (ms : List More) → Ends ms (Type 0) → (Type 0 → Type 0) → Type 0
-EachEnd [] f Q = Q f
-EachEnd (m ∷ ms) f Q = EachTold (m .changes) (m .View) (Ends ms (Type 0)) f (λ h. EachEnd ms h Q)
+-- ---- as what a clause sees them, handed in and at the end
+abbrev pub Views : List More → Type 0
+Views [] = Unit {0}
+Views (m ∷ ms) = m .View × Views ms
 
-of-told : (b : Bool) (Y : Type 0) (X : Type 1) (f : Told b Y X) (Q : X → Type 0) → EachTold b Y X f Q → (y : Y) → Q (told b Y X f y)
-of-told true Y X f Q h y = h y
-of-told false Y X f Q h y = h
+abbrev pub Left : {ms : List More} → Has ms → Type 0
+Left F = Outs {n = F .0 .n} (F .1) (slots (F .0)) (kepts (F .0))
 
--- the arguments are those that a signature has
-abbrev pub Left : (ms : List More) (F : From (count ms)) → Lfts (F .n) → Type 0
-Left ms F κs = Outs {n = F .n} κs (slots ms F) (all yes (slots ms F))
+abbrev pub ins : {ms : List More} (F : Has ms) → Passed F → Views ms
+ins {ms = []} F a = tt
+ins {ms = m ∷ ms} F a = (m .seen (a .0), ins (beyond F) (a .1))
 
-abbrev pub ins : (ms : List More) (F : From (count ms)) (κs : Lfts (F .n)) (X : Type 1) → Ins ms X → Denots (rows ms F κs) → X
-ins [] F κs X f a = f
-ins (m ∷ ms) F κs X f a = ins ms (beyond (m .lives) F) κs X (f (m .seen (a .0))) (a .1)
-
-abbrev pub ends : (ms : List More) (F : From (count ms)) (κs : Lfts (F .n)) → Ends ms (Type 0) → Left ms F κs → Type 0
-ends [] F κs f e = f
-ends (m ∷ ms) F κs f e = ends ms (beyond (m .lives) F) κs (told (m .changes) (m .View) (Ends ms (Type 0)) f (m .last (e .0))) (e .1)
-
--- all that it says: of those handed in, of what comes back, and of those that changed
-abbrev pub said : (ms : List More) (F : From (count ms)) (κs : Lfts (F .n)) (Z : Type 0) → Ins ms (Z → Ends ms (Type 0)) → Denots (rows ms F κs) → Z
-    → Left ms F κs → Type 0
-said ms F κs Z f a r e = ends ms F κs (ins ms F κs (Z → Ends ms (Type 0)) f a r) e
-
-pub each-in : (ms : List More) (F : From (count ms)) (κs : Lfts (F .n)) (X : Type 1) (f : Ins ms X) (Q : X → Type 0) → EachIn ms X f Q
-    → (a : Denots (rows ms F κs)) → Q (ins ms F κs X f a)
-each-in [] F κs X f Q h a = h
-each-in (m ∷ ms) F κs X f Q h a = each-in ms (beyond (m .lives) F) κs X (f (m .seen (a .0))) Q (h (m .seen (a .0))) (a .1)
-
-pub each-end : (ms : List More) (F : From (count ms)) (κs : Lfts (F .n)) (f : Ends ms (Type 0)) (Q : Type 0 → Type 0) → EachEnd ms f Q
-    → (e : Left ms F κs) → Q (ends ms F κs f e)
-each-end [] F κs f Q h e = h
-each-end (m ∷ ms) F κs f Q h e =
-    each-end ms (beyond (m .lives) F) κs (told (m .changes) (m .View) (Ends ms (Type 0)) f (m .last (e .0))) Q
-    (of-told (m .changes) (m .View) (Ends ms (Type 0)) f (λ k. EachEnd ms k Q) h (m .last (e .0))) (e .1)
+abbrev pub ends : {ms : List More} (F : Has ms) → Left F → Views ms
+ends {ms = []} F e = tt
+ends {ms = m ∷ ms} F e = (m .last (e .0), ends (beyond F) (e .1))
 
 -- ---- from one signature to another
-abbrev pub Last-in : (ms : List More) (F : From (count ms)) (κs : Lfts (F .n)) → Denots (rows ms F κs) → Type 0
-Last-in ms F κs a = Fins {n = F .n} κs (slots ms F) (all yes (slots ms F)) a
+abbrev pub Lasting : {ms : List More} (F : Has ms) → Passed F → Type 0
+Lasting F a = Fins {n = F .0 .n} (F .1) (slots (F .0)) (kepts (F .0)) a
 
-abbrev pub lefts : (ms : List More) (F : From (count ms)) (κs : Lfts (F .n)) (a : Denots (rows ms F κs)) → Last-in ms F κs a → Left ms F κs
-lefts ms F κs a z = outs {n = F .n} κs (slots ms F) (all yes (slots ms F)) a z
+abbrev pub lefts : {ms : List More} (F : Has ms) (a : Passed F) → Lasting F a → Left F
+lefts F a z = outs {n = F .0 .n} (F .1) (slots (F .0)) (kepts (F .0)) a z
 
-abbrev pub to : (ms : List More) (F G : From (count ms)) (κs : Lfts (F .n)) (κs′ : Lfts (G .n)) → Denots (rows ms F κs) → Denots (rows ms G κs′)
-to [] F G κs κs′ a = tt
-to (m ∷ ms) F G κs κs′ a = (a .0, to ms (beyond (m .lives) F) (beyond (m .lives) G) κs κs′ (a .1))
+abbrev pub to : {ms : List More} (F G : Has ms) → Passed F → Passed G
+to {ms = []} F G a = tt
+to {ms = m ∷ ms} F G a = (a .0, to (beyond F) (beyond G) (a .1))
 
-abbrev pub back : (ms : List More) (F G : From (count ms)) (κs : Lfts (F .n)) (κs′ : Lfts (G .n)) (a : Denots (rows ms F κs))
-    → Last-in ms G κs′ (to ms F G κs κs′ a) → Last-in ms F κs a
-back [] F G κs κs′ a z = tt
-back (m ∷ ms) F G κs κs′ a z = (z .0, back ms (beyond (m .lives) F) (beyond (m .lives) G) κs κs′ (a .1) (z .1))
+abbrev pub back : {ms : List More} (F G : Has ms) (a : Passed F) → Lasting G (to F G a) → Lasting F a
+back {ms = []} F G a z = tt
+back {ms = m ∷ ms} F G a z = (z .0, back (beyond F) (beyond G) (a .1) (z .1))
 
-pub same-ins : (ms : List More) (F G : From (count ms)) (κs : Lfts (F .n)) (κs′ : Lfts (G .n)) (X : Type 1) (f : Ins ms X) (a : Denots (rows ms F κs))
-    → ins ms G κs′ X f (to ms F G κs κs′ a) ≡ ins ms F κs X f a
-same-ins [] F G κs κs′ X f a = refl
-same-ins (m ∷ ms) F G κs κs′ X f a = same-ins ms (beyond (m .lives) F) (beyond (m .lives) G) κs κs′ X (f (m .seen (a .0))) (a .1)
+same-ins : {ms : List More} (F G : Has ms) (a : Passed F) → ins G (to F G a) ≡ ins F a
+same-ins {ms = []} F G a = refl
+same-ins {ms = m ∷ ms} F G a = ap (λ (v : Views ms). (m .seen (a .0), v)) (same-ins (beyond F) (beyond G) (a .1))
 
-pub same-ends : (ms : List More) (F G : From (count ms)) (κs : Lfts (F .n)) (κs′ : Lfts (G .n)) (f : Ends ms (Type 0)) (a : Denots (rows ms F κs))
-    (z : Last-in ms G κs′ (to ms F G κs κs′ a))
-    → ends ms G κs′ f (lefts ms G κs′ (to ms F G κs κs′ a) z)
-    ≡ ends ms F κs f (lefts ms F κs a (back ms F G κs κs′ a z))
-same-ends [] F G κs κs′ f a z = refl
-same-ends (m ∷ ms) F G κs κs′ f a z = same-ends ms (beyond (m .lives) F) (beyond (m .lives) G) κs κs′ _ (a .1) (z .1)
+same-ends : {ms : List More} (F G : Has ms) (a : Passed F) (z : Lasting G (to F G a)) → ends G (lefts G (to F G a) z) ≡ ends F (lefts F a (back F G a z))
+same-ends {ms = []} F G a z = refl
+same-ends {ms = m ∷ ms} F G a z =
+    ap (λ (v : Views ms). (m .last (see (m .lasting true) (a .0) (z .0)), v)) (same-ends (beyond F) (beyond G) (a .1) (z .1))
 
--- what a clause says of the one is what it says of the other
-pub same-said : (ms : List More) (F G : From (count ms)) (κs : Lfts (F .n)) (κs′ : Lfts (G .n)) (Z : Type 0) (f : Ins ms (Z → Ends ms (Type 0))) (r : Z)
-    (a : Denots (rows ms F κs)) (z : Last-in ms G κs′ (to ms F G κs κs′ a))
-    → said ms G κs′ Z f (to ms F G κs κs′ a) r (lefts ms G κs′ (to ms F G κs κs′ a) z) → said ms F κs Z f a r (lefts ms F κs a (back ms F G κs κs′ a z))
-same-said ms F G κs κs′ Z f r a z h =
-    subst (λ (f′ : Z → Ends ms (Type 0)). ends ms F κs (f′ r) (lefts ms F κs a (back ms F G κs κs′ a z)))
-    (same-ins ms F G κs κs′ (Z → Ends ms (Type 0)) f a)
-    (subst (λ (X : Type 0). X) (same-ends ms F G κs κs′ (ins ms G κs′ (Z → Ends ms (Type 0)) f (to ms F G κs κs′ a) r) a z) h)
+pub same-said : {ms : List More} (F G : Has ms) (P : Views ms → Views ms → Type 0) (a : Passed F) (z : Lasting G (to F G a))
+    → P (ins G (to F G a)) (ends G (lefts G (to F G a) z)) → P (ins F a) (ends F (lefts F a (back F G a z)))
+same-said {ms} F G P a z h =
+    subst (λ (v : Views ms). P v (ends F (lefts F a (back F G a z)))) (same-ins F G a) (subst (λ (v : Views ms). P (ins G (to F G a)) v) (same-ends F G a
+    z) h)
 
 -- ---- they are given up for good: what is had of them at the end is what the callee says of their last values
-abbrev gave : {n : ℕ} (s : Slot n) (k : Kept) → Stay s k
-gave s k = record { fit = λ κs x f. Unit {0}; has = λ κs x f vs. left (s .row κs .exit k) x f }
-
-abbrev pub gaves : {n : ℕ} (ss : List (Slot n)) → Stays ss (all yes ss)
+abbrev gaves : {n : ℕ} (ss : List (Slot n)) → Stays ss (all yes ss)
 gaves [] = tt
-gaves (s ∷ ss) = (gave s yes, gaves ss)
+gaves (s ∷ ss) = (record { fit = λ κs x f. Unit {0}; has = λ κs x f vs. left (s .row κs .exit yes) x f }, gaves ss)
 
-pub fits : (n : ℕ) (κs : Lfts n) (ss : List (Slot n)) (a : Denots (typesAt ss κs)) (ws : Fins κs ss (all yes ss) a)
-    → fitsOf κs ss (all yes ss) (gaves ss) a ws
-fits n κs [] a ws = tt
-fits n κs (s ∷ ss) a ws = (tt, fits n κs ss (a .1) (ws .1))
+abbrev pub given : {ms : List More} (F : Named ms) → Stays (slots F) (kepts F)
+given F = gaves (slots F)
+
+pub fits : {ms : List More} (F : Has ms) (a : Passed F) (ws : Lasting F a) → fitsOf {n = F .0 .n} (F .1) (slots (F .0)) (kepts (F .0)) (given (F .0)) a ws
+fits {ms = []} F a ws = tt
+fits {ms = m ∷ ms} F a ws = (tt, fits (beyond F) (a .1) (ws .1))
+
+abbrev pub lasting : {ms : List More} (F : Has ms) (a : Passed F) → Lasting F a → Fml
+lasting F a z = lastsOf {n = F .0 .n} (F .1) (slots (F .0)) (kepts (F .0)) a z
+
+abbrev pub had : {ms : List More} (F : Has ms) (a : Passed F) → Lasting F a → Fml
+had F a z = hasOf {n = F .0 .n} (F .1) (slots (F .0)) (kepts (F .0)) (given (F .0)) a z (vals F a)
 
 module _ {M : Type 1} (𝓤 : URA M) (H : Heap 𝓤) (A : Atoms 𝓤) where
-  pub goes : (W : Given 𝓤 H A) (n : ℕ) (ss : List (Slot n)) → AllGo 𝓤 H A W n ss (all yes ss) (gaves ss)
-  goes W n [] = tt
-  goes W n (s ∷ ss) = ((λ κs x f vs ok. W .laws .⇛-intro _), goes W n ss)
+  pub go-on : (W : Given 𝓤 H A) {ms : List More} (F : Named ms) → AllGo 𝓤 H A W (F .n) (slots F) (kepts F) (given F)
+  go-on W {ms = []} F = tt
+  go-on W {ms = m ∷ ms} F = ((λ κs x f vs ok. W .laws .⇛-intro _), go-on W (then F))
 
-  pub owns-to : (ms : List More) (F G : From (count ms)) (κs : Lfts (F .n)) (κs′ : Lfts (G .n)) → F .at κs ≡ G .at κs′ → (a : Denots (rows ms F κs))
-      → ent 𝓤 (sem 𝓤 H A (owns (rows ms F κs) a (valsIn ms F κs a)))
-      (sem 𝓤 H A (owns (rows ms G κs′) (to ms F G κs κs′ a) (valsIn ms G κs′ (to ms F G κs κs′ a))))
-  owns-to [] F G κs κs′ e a = id⊢ 𝓤 _
-  owns-to (m ∷ ms) F G κs κs′ e a =
+  pub owns-to : {ms : List More} (F G : Has ms) → F .0 .at (F .1) ≡ G .0 .at (G .1) → (a : Passed F)
+      → ent 𝓤 (sem 𝓤 H A (owns (rows F) a (vals F a))) (sem 𝓤 H A (owns (rows G) (to F G a) (vals G (to F G a))))
+  owns-to {ms = []} F G e a = id⊢ 𝓤 _
+  owns-to {ms = m ∷ ms} F G e a =
       mono∗ 𝓤
       (subst
-      (λ (λs : Lfts (count (m ∷ ms))). ent 𝓤 (sem 𝓤 H A (m .own (mine (m .lives) (count ms) (F .at κs)) (a .0) (m .val (a .0) ∷ [])))
-      (sem 𝓤 H A (m .own (mine (m .lives) (count ms) λs) (a .0) (m .val (a .0) ∷ [])))) e (id⊢ 𝓤 _))
-      (owns-to ms (beyond (m .lives) F) (beyond (m .lives) G) κs κs′ (ap (theirs (m .lives) (count ms)) e) (a .1))
+      (λ (κs : Lfts (count (m ∷ ms))).
+      ent 𝓤 (sem 𝓤 H A (m .own (own-at F) (a .0) (m .val (a .0) ∷ []))) (sem 𝓤 H A (m .own (mine (m .lives) (count ms) κs) (a .0) (m .val (a .0) ∷ [])))) e
+      (id⊢ 𝓤 _))
+      (owns-to (beyond F) (beyond G) (ap (theirs (m .lives) (count ms)) e) (a .1))
 
-  pub lasts-back : (ms : List More) (F G : From (count ms)) (κs : Lfts (F .n)) (κs′ : Lfts (G .n)) (a : Denots (rows ms F κs)) (vss : Valss (rows ms F κs))
-      (z : Last-in ms G κs′ (to ms F G κs κs′ a))
-      → ent 𝓤 (sem 𝓤 H A (lastsOf {n = G .n} κs′ (slots ms G) (all yes (slots ms G)) (to ms F G κs κs′ a) z))
-      (sem 𝓤 H A (hasOf {n = F .n} κs (slots ms F) (all yes (slots ms F)) (gaves (slots ms F)) a (back ms F G κs κs′ a z) vss))
-  lasts-back [] F G κs κs′ a vss z = id⊢ 𝓤 _
-  lasts-back (m ∷ ms) F G κs κs′ a vss z =
-      mono∗ 𝓤 (id⊢ 𝓤 (sem 𝓤 H A (left (m .lasting true) (a .0) (z .0)))) (lasts-back ms (beyond (m .lives) F) (beyond (m .lives) G) κs κs′ (a .1) (vss .1)
-      (z .1))
+  pub lasts-back : {ms : List More} (F G : Has ms) (a : Passed F) (z : Lasting G (to F G a))
+      → ent 𝓤 (sem 𝓤 H A (lasting G (to F G a) z)) (sem 𝓤 H A (had F a (back F G a z)))
+  lasts-back {ms = []} F G a z = id⊢ 𝓤 _
+  lasts-back {ms = m ∷ ms} F G a z = mono∗ 𝓤 (id⊢ 𝓤 (sem 𝓤 H A (left (m .lasting true) (a .0) (z .0)))) (lasts-back (beyond F) (beyond G) (a .1) (z .1))

@@ -5,11 +5,10 @@ use mathlib.Core.Bool.{not}
 use Prim.Native.Nat.{ℕ, _<_, _^_}
 use mathlib.Core.List.{[], _∷_, List}
 use lib.Dec.{T, eqb}
-use mir.Syntax.{Sym, Ty, Width, Local, local}
+use mir.Syntax.{Sym, Ty, Width}
 use mir.Val.{Val, Fits, bits}
-use denote.Exit.{Kept, left}
 use denote.RattleType.{RattleType}
-use denote.Signature.{Slot}
+use denote.Laws.{Is}
 use denote.Struct.Declared as declared
 use denote.Struct.Declared.{Declared}
 use denote.Struct.Field.{Field, u8-field}
@@ -17,10 +16,6 @@ use denote.Struct.Laws as laws
 use denote.Struct.Record as made
 use denote.Struct.Struct.{Plains, layout}
 use denote.Struct.Values.{Values}
-use denote.Triple.Walked.{Stay}
-
-abbrev pub also {ℓ ℓ′} : {A : Type ℓ} {B : Type ℓ′} → A → B → A × B
-also x y = (x, y)
 
 -- a number of a width, as the machine has it
 abbrev pub fit : {w : Width} {n : ℕ} → n < 2 ^ bits w → Fits w n
@@ -43,6 +38,10 @@ mirOf S = layout (declared.shape (S .type))
 
 abbrev pub valsOf : (S : Lent) → S .type .D → List Val
 valsOf S = laws.vals (S .type) (S .the-laws)
+
+-- what is known of one
+abbrev pub Whole : (S : Lent) → S .type .D → Type 0
+Whole S d = Is (rowOf S) d (valsOf S d)
 
 abbrev pub fieldsOf : List Lent → List Field
 fieldsOf [] = []
@@ -87,21 +86,6 @@ lawssOf (S ∷ Ss) = (laws.field-laws (S .type) (S .the-laws) (S .lowers), lawss
 
 abbrev pub outcomeLaws : {Ss : List Lent} (o : Outcome Ss) → laws.Laws (typeOf o)
 outcomeLaws {Ss} o = (laws.u8-laws, lawssOf Ss)
-
--- a signature's parameters after the first
-abbrev pub rest : {n : ℕ} → List (Slot n) → List (Slot n)
-rest [] = []
-rest (s ∷ ss) = ss
-
--- given up for good: what is had is what the contract says of the last value
-abbrev pub gave : {n : ℕ} (s : Slot n) (k : Kept) → Stay s k
-gave s k = record { fit = λ κs x f. Unit {0}; has = λ κs x f vs. left (s .row κs .exit k) x f }
-
--- the locals of a function, each at its place
-abbrev pub envOf : List Local → List ℕ → List (Ty × ℕ)
-envOf [] ls = []
-envOf (local τ h ∷ xs) [] = []
-envOf (local τ h ∷ xs) (l ∷ ls) = (τ, l) ∷ envOf xs ls
 
 -- an answer that the test for 0 found not to be it
 pub off-0 : {n : ℕ} → T (not (eqb n 0)) → n ≡ 0 → ⊥

@@ -18,10 +18,11 @@ use Rattle.c_feed.proofs.lpmag_feed.Statement as stated
 use Rattle.c_feed.proofs.lpmag_feed.Code as code
 
 abbrev says : Says buffers-and-bytes state fed feeding
-says s f oc fc os fs so sf ss bytes y oc′ fc′ os′ fs′ so′ sf′ ss′ = FeedGiven s f (buffers oc fc os fs so sf ss) bytes y (buffers oc′ fc′ os′ fs′ so′ sf′ ss′)
+says s f (oc, (fc, (os, (fs, (so, (sf, (ss, (bytes, _)))))))) y (oc′, (fc′, (os′, (fs′, (so′, (sf′, (ss′, _))))))) =
+    FeedGiven s f (buffers oc fc os fs so sf ss) bytes y (buffers oc′ fc′ os′ fs′ so′ sf′ ss′)
 
 keeps : Keeps buffers-and-bytes state fed feeding says
-keeps s f oc fc os fs so sf ss bytes y oc′ fc′ os′ fs′ so′ sf′ ss′ is z =
+keeps s f (oc, (fc, (os, (fs, (so, (sf, (ss, (bytes, _)))))))) y (oc′, (fc′, (os′, (fs′, (so′, (sf′, (ss′, _))))))) is z =
     feed-kept s (buffers oc fc os fs so sf ss) (buffers oc′ fc′ os′ fs′ so′ sf′ ss′) f bytes y is z .0
 
 pub lpmag-feed-spec : {M : Type 1} → stated.statement M
