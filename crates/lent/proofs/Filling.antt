@@ -6,24 +6,20 @@ use denote.Struct.Laws as laws
 use Rattle.lent.proofs.Borrows.{behind, opened, shut, again, made}
 use Rattle.lent.proofs.Structs.{fit, Lent, Outcome, Whole, rowOf, mirOf, valsOf, typeOf, outRow, outMir, outcomeLaws, off-0}
 use Rattle.lent.proofs.Locals.{Spots, envIn, At, Sits, Goes-on, past, here, next, sits, alloc-all, free-all, gone, from-at}
-use Rattle.lent.proofs.Rest.{More, count, Named, Has, slots, kepts, rows, Passed, spells, tellss, vals, Views, ins, ends, Lasting, lefts, to, back}
-use Rattle.lent.proofs.Rest.{same-said, given, fits, go-on, owns-to, lasting, had, lasts-back}
+use Rattle.lent.proofs.Rest.{More, count, Named, then, Has, rows, Passed, spells, tellss, vals, Views, ins, ends, Lasting, lefts, to, back, same-said}
+use Rattle.lent.proofs.Rest.{given, fits, go-on, owns-to, lasting, had, lasts-back}
+use Rattle.lent.proofs.Params.{fills}
 use Rattle.lent.proofs.Handing.{params, with-temps, anew, handed, past-temps, Temps, temps-env, Stand, stand, cells, alloc-temps, free-temps}
 use Rattle.lent.proofs.Handing.{pass-all, lent-anew, hands-on}
-use Rattle.lent.proofs.Shapes.{in-callee, called, contract, Met, types, Telling, telling, knowing, answered, by-walk}
-use Rattle.lent.proofs.Kit.{_≡_, refl, sym, ap, subst, ℕ, _<_, _^_, suc, [], _∷_, _++_, List, URA, fullShare, Name, Fn, Statements, named, Ty, mut}
-use Rattle.lent.proofs.Kit.{w8, tyInt}
-use Rattle.lent.proofs.Kit.{tyBool, tyRef, place, copy, deref, field, rvOpd, op2, eq, int, cond, skip, seq, assign, call, return, local}
-use Rattle.lent.proofs.Kit.{valueLocal, Val, vint}
-use Rattle.lent.proofs.Kit.{SProp, ent, sep, fat, flft, Heap, Calls, Loops, WpFn, Tables, Atoms, sem, Lfts, Shares, Given, Item, atRet, ‵, raw}
-use Rattle.lent.proofs.Kit.{_⊛_, ⋆, _$_}
-use Rattle.lent.proofs.Kit.{_∵_, !, qed, by, move, drop, use1, use2, split, join, rewrite, fsplit, fsplit3, fjoin, suffices, frame, done, look}
-use Rattle.lent.proofs.Kit.{look-raw, init}
-use Rattle.lent.proofs.Kit.{store-raw, stop, hop, fld, from, load, of-opd, bin, lit, and-then, assigns, assigns-last, first, branches, skips, exec}
-use Rattle.lent.proofs.Kit.{land}
-use Rattle.lent.proofs.Kit.{returns, enter, alloc1, alloc0, params1, pass1, free0, whole, sub, look-in, FmC, fmOf, owns, flat, Is, Are, Ises, shows}
-use Rattle.lent.proofs.Kit.{pointee, uint-makes, u8, ptr-vals, mut-tells, plain, mutRefTo, only, owned, facts, Args, Vals, alive, onEntry}
-use Rattle.lent.proofs.Kit.{Contract, Triple, calls-at, Ended, says, Stays, stay-ref, walkOf, goes-ref, ends-at, yes}
+use Rattle.lent.proofs.Shapes.{alone, called, function, answers, tested, contract, Met, types, Telling, telling, knowing, answered, by-walk}
+use Rattle.lent.proofs.Kit.{_≡_, refl, sym, ap, subst, ℕ, _<_, _^_, suc, [], _∷_, List, URA, fullShare, Name, Fn, Ty, w8, tyInt, tyBool, place, copy}
+use Rattle.lent.proofs.Kit.{deref, field, rvOpd, seq, assign, call, local, valueLocal, Val, vint, SProp, ent, sep, fat, flft, Heap, Calls, Loops}
+use Rattle.lent.proofs.Kit.{WpFn, Tables, Atoms, sem, Lfts, Shares, Given, Item, atRet, ‵, raw, _⊛_, ⋆, _$_, _∵_, !, qed, by, move, drop, use1, use2}
+use Rattle.lent.proofs.Kit.{split, join, rewrite, fsplit, fsplit3, fjoin, suffices, frame, done, look, look-raw, init, store-raw, stop, hop, fld}
+use Rattle.lent.proofs.Kit.{from, load, of-opd, bin, lit, and-then, assigns, assigns-last, first, branches, skips, exec, land, returns, enter, alloc1}
+use Rattle.lent.proofs.Kit.{alloc0, params1, free0, whole, sub, look-in, FmC, fmOf, owns, flat, Is, Are, Ises, shows, uint-makes, u8, plain, only}
+use Rattle.lent.proofs.Kit.{owned, facts, Args, Vals, alive, onEntry, Contract, Triple, calls-at, Ended, says, Stays, stay-ref, walkOf, goes-ref}
+use Rattle.lent.proofs.Kit.{ends-at}
 
 module _ (ms : List More) (R : Lent) (O : Outcome (R ∷ [])) where
   abbrev pub Says : Type 1
@@ -36,19 +32,19 @@ module _ (ms : List More) (R : Lent) (O : Outcome (R ∷ [])) where
   asked = called ms (rowOf R ∷ []) (outRow O)
 
   abbrev asks : Says → Telling asked
-  asks P κs a r end = P (a .0) (ins (in-callee ms, κs) (a .1)) r (ends (in-callee ms, κs) (end .1))
+  asks P κs a r end = P (a .0) (ins (alone ms, κs) (a .1)) r (ends (alone ms, κs) (end .1))
 
   abbrev pub Asks : {M : Type 1} (𝓤 : URA M) (H : Heap 𝓤) (A : Atoms 𝓤) → Says → Contract 𝓤
   Asks 𝓤 H A P = contract asked 𝓤 H A (asks P)
 
-  abbrev more : Named ms
-  more = record { n = suc (count ms); at = λ κs. κs .1; i = 1 }
+  abbrev all-of : List More
+  all-of = fills (rowOf R) ∷ ms
 
   abbrev lent : Ended
-  lent = record {
-    signature = record { lifetimes = more .n; outlives = []; params = mutRefTo (0 ∷ []) tt (plain (λ _. rowOf R)) ∷ slots more; result = plain (λ _. u8) };
-    kept = (yes, kepts more);
-  }
+  lent = called all-of [] u8
+
+  abbrev more : Named ms
+  more = then (alone all-of)
 
   abbrev lends : Says → Telling lent
   lends P κs a r end = P (a .0 .now) (ins (more, κs) (a .1)) (O .make (r, (end .0 .now, tt))) (ends (more, κs) (end .1))
@@ -60,40 +56,26 @@ module _ (ms : List More) (R : Lent) (O : Outcome (R ∷ [])) where
   abbrev temps : ℕ
   temps = suc (suc out)
 
-  abbrev point : Ty
-  point = tyRef (named 0) mut (pointee (rowOf R .written))
-
-  abbrev last : Statements
-  last = seq (assign (place 0 []) (rvOpd (copy (place out (field 0 ∷ []))))) return
-
   abbrev code : Name → Fn
-  code g = record {
-    lifetimes = more .n;
-    outlives = [];
-    params = past (params ms 1) 1;
-    locals =
-        local (tyInt w8) valueLocal ∷ local point valueLocal
-        ∷ (params ms 1 ++ (local (outMir O) valueLocal ∷ local (mirOf R) valueLocal ∷ with-temps ms (local tyBool valueLocal ∷ [])));
-    body =
-        seq (assign (place (suc out) []) (rvOpd (copy (place 1 (deref (mirOf R) ∷ [])))))
-        (anew ms 2 temps
-        (seq (call g (copy (place (suc out) []) ∷ handed ms 2 temps) (place out []))
-        (seq (assign (place (past-temps ms temps) []) (op2 eq (copy (place out (field 0 ∷ []))) (int w8 0)))
-        (seq (cond (copy (place (past-temps ms temps) [])) (assign (place 1 (deref (mirOf R) ∷ [])) (rvOpd (copy (place out (field 1 ∷ []))))) skip)
-        last))));
-  }
+  code g =
+      function all-of (local (outMir O) valueLocal ∷ local (mirOf R) valueLocal ∷ with-temps ms (local tyBool valueLocal ∷ []))
+      (seq (assign (place (suc out) []) (rvOpd (copy (place 1 (deref (mirOf R) ∷ [])))))
+      (anew ms 2 temps
+      (seq (call g (copy (place (suc out) []) ∷ handed ms 2 temps) (place out []))
+      (tested out (past-temps ms temps) (assign (place 1 (deref (mirOf R) ∷ [])) (rvOpd (copy (place out (field 1 ∷ [])))))))))
 
-  module _ (l0 l1 : ℕ) (bs : Spots (params ms 1)) (l2 l3 : ℕ) (ts : Temps ms) (l4 : ℕ) where
+  module _ (l0 : ℕ) (bs : Spots (params all-of 0)) (l2 l3 : ℕ) (ts : Temps ms) (l4 : ℕ) where
     abbrev inner : List (Ty × ℕ)
     inner = (outMir O, l2) ∷ (mirOf R, l3) ∷ temps-env ms ts ((tyBool, l4) ∷ [])
 
     abbrev env : List (Ty × ℕ)
-    env = (tyInt w8, l0) ∷ (point, l1) ∷ envIn (params ms 1) bs inner
+    env = (tyInt w8, l0) ∷ envIn (params all-of 0) bs inner
 
-    found : At env out (outMir O) l2 × At env (suc out) (mirOf R) l3 × Sits env 2 (params ms 1) bs × Stand env temps ms ts × At env (past-temps ms temps)
+    found : At env out (outMir O) l2 × At env (suc out) (mirOf R) l3 × Sits env 2 (params ms 1) (bs .1) × Stand env temps ms ts × At env (past-temps ms
+        temps)
         tyBool l4
     found =
-        let p : Sits env 2 (params ms 1) bs × Goes-on env out inner = sits (params ms 1) bs env 2 refl in
+        let p : Sits env 2 (params ms 1) (bs .1) × Goes-on env out inner = sits (params ms 1) (bs .1) env 2 refl in
         let s : Goes-on env (suc out) _ = next env out (p .1) in
         let u : Stand env temps ms ts × Goes-on env (past-temps ms temps) _ = stand ms ts env temps (next env (suc out) s) in
         (here env out (p .1), here env (suc out) s, p .0, u .0, here env (past-temps ms temps) (u .1))
@@ -101,8 +83,8 @@ module _ (ms : List More) (R : Lent) (O : Outcome (R ∷ [])) where
   abbrev stayed : Stays (lent .signature .params) (lent .kept)
   stayed = (stay-ref (0 ∷ []) tt (plain (λ _. rowOf R)), given more)
 
-  module _ {M : Type 1} (𝓤 : URA M) (H : Heap 𝓤) (A : Atoms 𝓤) (W : Given 𝓤 H A) (P : Says) (keeps : Keeps P) (κs : Lfts (suc (count ms)))
-      (qs : Shares (suc (count ms))) (a : Args (lent .signature) κs) where
+  module _ {M : Type 1} (𝓤 : URA M) (H : Heap 𝓤) (A : Atoms 𝓤) (W : Given 𝓤 H A) (P : Says) (keeps : Keeps P) (κs : Lfts (count all-of))
+      (qs : Shares (count all-of)) (a : Args (lent .signature) κs) where
     abbrev was : R .type .D
     was = a .0 .now
 
@@ -113,10 +95,10 @@ module _ (ms : List More) (R : Lent) (O : Outcome (R ∷ [])) where
     x = a .1
 
     abbrev G : Has ms
-    G = (in-callee ms, κs .1)
+    G = (alone ms, κs .1)
 
     abbrev at : Vals (lent .signature) κs
-    at = (ptr-vals (a .0), vals F x)
+    at = vals (alone all-of, κs) a
 
     abbrev to-callee : Asks 𝓤 H A P .Ghost
     to-callee = ((κs .1, qs .1, tt, (was, to F G x), (valsOf R was, vals G (to F G x))), tt)
@@ -153,53 +135,53 @@ module _ (ms : List More) (R : Lent) (O : Outcome (R ∷ [])) where
         → ent 𝓤 (onEntry 𝓤 H A (lent .signature) κs qs a at) (WpFn 𝓤 H C Λ (code g) (flat (types lent κs) at) Post)
     walk g C Λ fm known are =
         qed W ((‵ (flft (κs .0) (qs .0)) ⊛ raw Tokens) ∷ ‵ (owns (types lent κs) a at) ∷ []) ∵ enter ! C Λ (code g) (flat (types lent κs) at) _ $
-        alloc1 ! (λ l0. alloc1 ! (λ l1. alloc-all ! (params ms 1) _ (λ bs. alloc1 ! (λ l2. alloc1 ! (λ l3. alloc-temps ! ms _ (λ ts. alloc1 ! (λ l4. alloc0
-        ! $ params1 ! $
-        pass1 ! (init ! 8 refl (tt, tt)) $ move ! (7 ∷ []) $ pass-all ! (inner l0 l1 bs l2 l3 ts l4) F bs x (are .1) $
+        alloc1 ! (λ l0. alloc-all ! (params all-of 0) _ (λ bs. alloc1 ! (λ l2. alloc1 ! (λ l3. alloc-temps ! ms _ (λ ts. alloc1 ! (λ l4. alloc0 ! $
+        params1 ! $
+        move ! (7 ∷ []) $ pass-all ! (inner l0 bs l2 l3 ts l4) (alone all-of, κs) bs a are $ split ! $ split ! $
         move ! (13 ∷ []) $ fsplit ! $ fsplit3 ! $ drop ! $ move ! (15 ∷ []) $ split ! $
         -- [the token; the tokens of the rest; the struct's obs and borrow; what the rest owns; the locals]
-        move ! (2 ∷ 3 ∷ 0 ∷ []) $ opened R (a .0) was ! tt (λ k. knowing ! (found l0 l1 bs l2 l3 ts l4) (λ at-l.
+        move ! (2 ∷ 3 ∷ 0 ∷ []) $ opened R (a .0) was ! tt (λ k. knowing ! (found l0 bs l2 l3 ts l4) (λ at-l.
         -- [its cell, open borrow, obs, auth; the tokens of the rest; what they own; the rest's locals, the test, what is lent anew, the copy, what comes
         -- back,
         -- the pointer, the answer]
-        assigns ! (of-opd ! (load ! (from ! (hop ! (look ! 14 refl) (stop !))) (look-raw ! 0 refl))) (from-at ! (at-l .1) (stop !))
-        (init ! 10 refl (laws.lawful (R .type) (R .the-laws) 𝓤 H A W .typed was _ k .0)) $
-        move ! (6 ∷ 9 ∷ []) $ lent-anew ! F 2 temps bs ts x (are .1) (at-l .2) (at-l .3) $
+        assigns ! (of-opd ! (load ! (from ! (hop ! (look ! 6 refl) (stop !))) (look-raw ! 0 refl))) (from-at ! (at-l .1) (stop !))
+        (init ! 12 refl (laws.lawful (R .type) (R .the-laws) 𝓤 H A W .typed was _ k .0)) $
+        move ! (8 ∷ 11 ∷ []) $ lent-anew ! F 2 temps (bs .1) ts x (are .1) (at-l .2) (at-l .3) $
         move ! (6 ∷ 7 ∷ []) $ use2 W (raw (Asks 𝓤 H A P .pre to-callee)) (goes-in k) $
         calls-at ! fm (Asks 𝓤 H A P) known to-callee
-        (and-then ! (load ! (from-at ! (at-l .1) (stop !)) (look ! 9 refl))
-        (hands-on ! F G 2 temps bs ts x (at-l .2) (at-l .3) (record { read = λ p. look-in ! 1 p }) (record { read = λ p. look-in ! 2 p })))
+        (and-then ! (load ! (from-at ! (at-l .1) (stop !)) (look ! 11 refl))
+        (hands-on ! F G 2 temps (bs .1) ts x (at-l .2) (at-l .3) (record { read = λ p. look-in ! 1 p }) (record { read = λ p. look-in ! 2 p })))
         (λ w. answered asked ! tt (asks P) (to-callee .0) w (λ r zs e. fsplit ! $ drop ! $ move ! (1 ∷ []) $
         facts ! (outRow O) (Is (outRow O)) (shows 𝓤 H A (outRow O)) r (w ∷ []) (λ is.
         -- [the last values of the rest; their tokens, locals, what is lent anew; the struct's four; the other locals]
-        land ! (from-at ! (at-l .0) (stop !)) (init ! 12 refl (laws.lawful (typeOf O) (outcomeLaws O) 𝓤 H A W .typed r _ is .0)) $
-        rewrite ! 12 (λ (u : Val). ‵ (fat fullShare (outMir O) l2 0 u)) (ap only (laws.tells (typeOf O) (outcomeLaws O) r _ is)) refl $
-        assigns ! (bin ! (load ! (from-at ! (at-l .0) (fld ! refl (stop !))) (look-in ! 12 (sub ! 0 refl (whole !)))) (lit ! tt) tt) (from-at ! (at-l .4)
+        land ! (from-at ! (at-l .0) (stop !)) (init ! 14 refl (laws.lawful (typeOf O) (outcomeLaws O) 𝓤 H A W .typed r _ is .0)) $
+        rewrite ! 14 (λ (u : Val). ‵ (fat fullShare (outMir O) l2 0 u)) (ap only (laws.tells (typeOf O) (outcomeLaws O) r _ is)) refl $
+        assigns ! (bin ! (load ! (from-at ! (at-l .0) (fld ! refl (stop !))) (look-in ! 14 (sub ! 0 refl (whole !)))) (lit ! tt) tt) (from-at ! (at-l .4)
         (stop !))
-        (init ! 8 refl (tt, tt)) $ first ! $ branches ! (load ! (from-at ! (at-l .4) (stop !)) (look ! 8 refl))
+        (init ! 10 refl (tt, tt)) $ first ! $ branches ! (load ! (from-at ! (at-l .4) (stop !)) (look ! 10 refl))
         -- the answer is 0: it is stored
         (λ on.
-        assigns-last ! (of-opd ! (load ! (from-at ! (at-l .0) (fld ! refl (stop !))) (look-in ! 12 (sub ! 1 refl (whole !))))) (from ! (hop ! (look ! 14
+        assigns-last ! (of-opd ! (load ! (from-at ! (at-l .0) (fld ! refl (stop !))) (look-in ! 14 (sub ! 1 refl (whole !))))) (from ! (hop ! (look ! 8
         refl) (stop !)))
         (store-raw ! 4 refl (laws.lawful (R .type) (R .the-laws) 𝓤 H A W .typed _ _ (laws.owed (typeOf O) (outcomeLaws O) r _ is .1 .0) .0)) $
-        exec ! C Λ (env l0 l1 bs l2 l3 ts l4) last (atRet (env l0 l1 bs l2 l3 ts l4) Post) $
-        assigns ! (of-opd ! (load ! (from-at ! (at-l .0) (fld ! refl (stop !))) (look-in ! 12 (sub ! 0 refl (whole !))))) (from ! (stop !))
+        exec ! C Λ (env l0 bs l2 l3 ts l4) (answers out) (atRet (env l0 bs l2 l3 ts l4) Post) $
+        assigns ! (of-opd ! (load ! (from-at ! (at-l .0) (fld ! refl (stop !))) (look-in ! 14 (sub ! 0 refl (whole !))))) (from ! (stop !))
         (init ! 16 refl (tt, fit (laws.owed (typeOf O) (outcomeLaws O) r _ is .0 .1))) $ move ! (4 ∷ 5 ∷ 6 ∷ 7 ∷ []) $
         shut R (a .0) (O .values r .1 .0) ! tt (laws.owed (typeOf O) (outcomeLaws O) r _ is .1 .0) $
-        returns ! (look ! 15 refl) $ move ! (15 ∷ 16 ∷ 13 ∷ 14 ∷ 5 ∷ 11 ∷ 12 ∷ 9 ∷ 10 ∷ 6 ∷ 7 ∷ 8 ∷ []) $ gone ! $ gone ! $
-        free-all ! (params ms 1) bs (cells F x) $ gone ! $ gone ! $ free-temps ! F ts x $ gone ! $ free0 ! $
+        returns ! (look ! 15 refl) $ move ! (15 ∷ 16 ∷ 7 ∷ 8 ∷ 5 ∷ 13 ∷ 14 ∷ 11 ∷ 12 ∷ 6 ∷ 9 ∷ 10 ∷ []) $ gone ! $ gone ! $
+        free-all ! (params ms 1) (bs .1) (cells F x) $ gone ! $ gone ! $ free-temps ! F ts x $ gone ! $ free0 ! $
         by ! (exits (O .values r .1 .0) (zs .1) r (sym (O .eta r)) e (laws.owed (typeOf O) (outcomeLaws O) r _ is .0 .1)))
         -- it isn't: it stays as it was
-        (λ off. skips ! $ exec ! C Λ (env l0 l1 bs l2 l3 ts l4) last (atRet (env l0 l1 bs l2 l3 ts l4) Post) $
-        assigns ! (of-opd ! (load ! (from-at ! (at-l .0) (fld ! refl (stop !))) (look-in ! 12 (sub ! 0 refl (whole !))))) (from ! (stop !))
+        (λ off. skips ! $ exec ! C Λ (env l0 bs l2 l3 ts l4) (answers out) (atRet (env l0 bs l2 l3 ts l4) Post) $
+        assigns ! (of-opd ! (load ! (from-at ! (at-l .0) (fld ! refl (stop !))) (look-in ! 14 (sub ! 0 refl (whole !))))) (from ! (stop !))
         (init ! 16 refl (tt, fit (laws.owed (typeOf O) (outcomeLaws O) r _ is .0 .1))) $ move ! (4 ∷ 5 ∷ 6 ∷ 7 ∷ []) $ shut R (a .0) was ! tt k $
-        returns ! (look ! 15 refl) $ move ! (15 ∷ 16 ∷ 13 ∷ 14 ∷ 5 ∷ 11 ∷ 12 ∷ 9 ∷ 10 ∷ 6 ∷ 7 ∷ 8 ∷ []) $ gone ! $ gone ! $
-        free-all ! (params ms 1) bs (cells F x) $ gone ! $ gone ! $ free-temps ! F ts x $ gone ! $ free0 ! $
-        by ! (exits was (zs .1) r (keeps was _ r _ e (off-0 off)) e (laws.owed (typeOf O) (outcomeLaws O) r _ is .0 .1)))))))))))))))
+        returns ! (look ! 15 refl) $ move ! (15 ∷ 16 ∷ 7 ∷ 8 ∷ 5 ∷ 13 ∷ 14 ∷ 11 ∷ 12 ∷ 6 ∷ 9 ∷ 10 ∷ []) $ gone ! $ gone ! $
+        free-all ! (params ms 1) (bs .1) (cells F x) $ gone ! $ gone ! $ free-temps ! F ts x $ gone ! $ free0 ! $
+        by ! (exits was (zs .1) r (keeps was _ r _ e (off-0 off)) e (laws.owed (typeOf O) (outcomeLaws O) r _ is .0 .1))))))))))))))
 
   pub meets : {M : Type 1} (𝓤 : URA M) (H : Heap 𝓤) (A : Atoms 𝓤) (W : Given 𝓤 H A) (P : Says) → Keeps P → (g : Name) (𝓣 : Tables 𝓤 H)
       → Triple 𝓤 (𝓣 .C g) (Asks 𝓤 H A P) → Met lent 𝓤 H A (lends P) 𝓣 (code g)
   meets 𝓤 H A W P keeps g 𝓣 known =
       by-walk lent 𝓤 H A W (lends P) 𝓣 (code g) stayed (goes-ref 𝓤 H A W (more .n) 0 tt (plain (λ _. rowOf R)), go-on 𝓤 H A W more)
-      (λ κs. (ptr-vals, spells (more, κs))) (λ κs. (mut-tells (named 0) (κs .0) (rowOf R), tellss (more, κs)))
+      (λ κs. spells (alone all-of, κs)) (λ κs. tellss (alone all-of, κs))
       (λ κs qs bounds a are. walk 𝓤 H A W P keeps κs qs a g (𝓣 .C) (𝓣 .Λ) (fmOf 𝓤 H (W .laws) 𝓣) known are)

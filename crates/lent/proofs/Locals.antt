@@ -12,8 +12,8 @@ use base.Logic.{ent, SProp, wand, all, id⊢, comm∗, allE, apply∗}
 use base.Fml.{Share, ftrue, froom, fdies, fat}
 use prog.Wp.{Heap, Env, Spot, walk}
 use ghost.Atoms.{Atoms}
-use types.Kit.{Goal, allocs, frees, Seq, Step, step, Given, Item, ‵, raw, _⊛_, mean, ⋆, _$_, _∵_, !, qed, move, split, join, drop, use1, use2, frame}
-use types.Kit.{each, assume, done}
+use types.Kit.{Goal, allocs, frees, Seq, Step, step, Given, Item, ‵, raw, _⊛_, mean, ⋆, _$_, _∵_, !, qed, move, split, join, drop, use1, use2, frame, each}
+use types.Kit.{assume, done}
 use types.Run.{Walks, Finds, Reads, forget, alloc1, free1}
 use types.Part.{Part}
 use denote.Steps.{nothing}

@@ -1,7 +1,7 @@
 -- The parameters that exports have after the structs: a slice to write, a slice to read, a number, and a place for an answer.
 -- Assumes nothing.
 use mathlib.Core.Path.{refl}
-use Prim.Native.Nat.{ℕ, suc, _<_, _^_}
+use Prim.Native.Nat.{ℕ, suc}
 use mathlib.Core.Bool.{true, false}
 use mathlib.Core.List.{[], _∷_, _++_, List}
 use lib.ListN.{length}
@@ -14,7 +14,7 @@ use denote.RattleType.{RattleType}
 use denote.Memory.{pointee}
 use denote.Plain.{uint-tells}
 use denote.Builtin.{u8, i16, usize}
-use denote.Ref.{RefT, MutRef, mut-tells}
+use denote.Ref.{RefT, MutRef, ShrRef, mut-tells, shr-tells}
 use denote.Slice.{MutSlice, ShrSlice, sliceTy, sliceVal, mut-slice-tells, shr-slice-tells}
 use Rattle.lent.proofs.Structs.{fit}
 use Rattle.lent.proofs.Locals.{from-at, left-of, right-of}
@@ -136,6 +136,25 @@ fills E = record {
   tells = λ κ. mut-tells erased κ E;
   typed = λ ℓ κ x p. (tt, tt);
   anew = anew-place (E .Denot) (pointee (E .written));
+  View = E .Denot;
+  seen = λ x. x .now;
+  last = λ y. y .now;
+}
+
+-- `&E`
+abbrev pub shown : RattleType → More
+shown E = record {
+  lives = true;
+  D = RefT (E .Denot);
+  mir = λ ℓ. tyRef ℓ imm (pointee (E .written));
+  reaches = ShrRef erased [] E .reaches;
+  own = λ κ. ShrRef erased κ E .own;
+  lasting = λ b. ShrRef erased [] E .exit (λ _. b);
+  coded = ShrRef erased [] E .coded;
+  val = λ x. vptr (x .ptr .0) (x .ptr .1);
+  tells = λ κ. shr-tells erased κ E;
+  typed = λ ℓ κ x p. (tt, tt);
+  anew = as-it-is _ _ _;
   View = E .Denot;
   seen = λ x. x .now;
   last = λ y. y .now;

@@ -95,7 +95,7 @@ pub record Named (ms : List More) : Type 0 where
   pub at : Lfts n → Lfts (count ms)
   pub i : ℕ
 
-abbrev then : {m : More} {ms : List More} → Named (m ∷ ms) → Named ms
+abbrev pub then : {m : More} {ms : List More} → Named (m ∷ ms) → Named ms
 then {m} {ms} F = record { n = F .n; at = λ κs. theirs (m .lives) (count ms) (F .at κs); i = grow (m .lives) (F .i) }
 
 abbrev pub slots : {ms : List More} (F : Named ms) → List (Slot (F .n))

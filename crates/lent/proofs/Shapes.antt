@@ -1,16 +1,18 @@
 -- What the walks of all shapes have in common: clauses that say one thing at the end, what a call of g gives back, and the way from a walk to a contract.
 -- Assumes nothing.
+use Rattle.lent.proofs.Locals.{past}
 use Rattle.lent.proofs.Rest.{More, count, Named, slots}
-use Rattle.lent.proofs.Kit.{ℕ, _∷_, [], List, URA, Fn, Val, ent, emp, via, fst∗, id⊢, Heap, WpFn, Tables, Atoms, Lfts, Shares, fact, Goal, Soaks, Seq}
-use Rattle.lent.proofs.Kit.{Given, Item, ‵, raw, some, later, _⊛_, _$_, move, use1, split, pick, await, WpFn-mono, flat, Are, Ises, Spells, valss}
-use Rattle.lent.proofs.Kit.{Tellss}
-use Rattle.lent.proofs.Kit.{RattleType, Slot, plain, all, yes, Contract, typeAt, typesAt, heard, Args, Res, AtExit, atExit, alive, onEntry, Meets}
-use Rattle.lent.proofs.Kit.{tripleOf, Ended, Clauses, closing, Lasts}
-use Rattle.lent.proofs.Kit.{ensured, lasts, Stays, walkOf, AllGo, AllOutlive, walked, walk-meets, Bound}
+use Rattle.lent.proofs.Handing.{params}
+use Rattle.lent.proofs.Kit.{_++_, Statements, Local, local, valueLocal, w8, tyInt, place, copy, field, rvOpd, op2, eq, int, cond, skip, seq, assign}
+use Rattle.lent.proofs.Kit.{return, ℕ, _∷_, [], List, URA, Fn, Val, ent, emp, via, fst∗, id⊢, Heap, WpFn, Tables, Atoms, Lfts, Shares, fact, Goal}
+use Rattle.lent.proofs.Kit.{Soaks, Seq, Given, Item, ‵, raw, some, later, _⊛_, _$_, move, use1, split, pick, await, WpFn-mono, flat, Are, Ises}
+use Rattle.lent.proofs.Kit.{Spells, valss, Tellss, RattleType, Slot, plain, all, yes, Contract, typeAt, typesAt, heard, Args, Res, AtExit, atExit}
+use Rattle.lent.proofs.Kit.{alive, onEntry, Meets, tripleOf, Ended, Clauses, closing, Lasts, ensured, lasts, Stays, walkOf, AllGo, AllOutlive, walked}
+use Rattle.lent.proofs.Kit.{walk-meets, Bound}
 
--- the parameters after the structs, as the callee names them: it has their lifetimes alone
-abbrev pub in-callee : (ms : List More) → Named ms
-in-callee ms = record { n = count ms; at = λ κs. κs; i = 0 }
+-- parameters in a signature that has their lifetimes alone
+abbrev pub alone : (ms : List More) → Named ms
+alone ms = record { n = count ms; at = λ κs. κs; i = 0 }
 
 -- something is known from here on
 pub knowing : {M : Type 1} {𝓤 : URA M} {H : Heap 𝓤} {A : Atoms 𝓤} {K : Type 0} {W : Given 𝓤 H A} {Γ : List (Item 𝓤)} {G : Goal 𝓤 H} → K → {X : Type 0} → X
@@ -21,12 +23,30 @@ abbrev by-value : {n : ℕ} → List RattleType → List (Slot n) → List (Slot
 by-value [] ss = ss
 by-value (R ∷ Rs) ss = plain (λ _. R) ∷ by-value Rs ss
 
--- the callee, with the structs by value
+-- what takes some things by value, and then the parameters: the callee, and with nothing by value the export
 abbrev pub called : List More → List RattleType → RattleType → Ended
 called ms Rs R = record {
-  signature = record { lifetimes = count ms; outlives = []; params = by-value Rs (slots (in-callee ms)); result = plain (λ _. R) };
-  kept = all yes (by-value Rs (slots (in-callee ms)));
+  signature = record { lifetimes = count ms; outlives = []; params = by-value Rs (slots (alone ms)); result = plain (λ _. R) };
+  kept = all yes (by-value Rs (slots (alone ms)));
 }
+
+-- a function that answers with a byte, and has these parameters and these locals after them
+abbrev pub function : List More → List Local → Statements → Fn
+function ms ls b = record {
+  lifetimes = count ms;
+  outlives = [];
+  params = past (params ms 0) 0;
+  locals = local (tyInt w8) valueLocal ∷ (params ms 0 ++ ls);
+  body = b;
+}
+
+-- what came back is in the local out: its number is the answer, and where that is 0 it is stored
+abbrev pub answers : ℕ → Statements
+answers out = seq (assign (place 0 []) (rvOpd (copy (place out (field 0 ∷ []))))) return
+
+abbrev pub tested : ℕ → ℕ → Statements → Statements
+tested out test b =
+    seq (assign (place test []) (op2 eq (copy (place out (field 0 ∷ []))) (int w8 0))) (seq (cond (copy (place test [])) b skip) (answers out))
 
 module _ (T : Ended) where
   abbrev pub Lives : Type 0

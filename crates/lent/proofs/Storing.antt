@@ -8,26 +8,21 @@
 use denote.Struct.Laws as laws
 use Rattle.lent.proofs.Borrows.{behind, opened, shut, again, made}
 use Rattle.lent.proofs.Structs.{fit, Lent, Outcome, Whole, rowOf, mirOf, valsOf, typeOf, outRow, outMir, outcomeLaws, off-0}
-use Rattle.lent.proofs.Locals.{Spots, envIn, At, Sits, Goes-on, past, here, next, sits, rooms, alloc-all, free-all, gone, from-at, Inside}
-use Rattle.lent.proofs.Rest.{More, count, Named, Has, slots, kepts, rows, Passed, spells, tellss, vals, Views, ins, ends, Lasting, lefts, to, back}
-use Rattle.lent.proofs.Rest.{same-said, given, fits, go-on, owns-to, lasting, had, lasts-back}
+use Rattle.lent.proofs.Locals.{Spots, envIn, At, Sits, Goes-on, past, here, next, sits, alloc-all, free-all, gone, from-at}
+use Rattle.lent.proofs.Rest.{More, count, Named, then, Has, rows, Passed, spells, tellss, vals, Views, ins, ends, Lasting, lefts, to, back, same-said}
+use Rattle.lent.proofs.Rest.{given, fits, go-on, owns-to, lasting, had, lasts-back}
+use Rattle.lent.proofs.Params.{fills}
 use Rattle.lent.proofs.Handing.{params, with-temps, anew, handed, past-temps, Temps, temps-env, Stand, stand, cells, alloc-temps, free-temps}
 use Rattle.lent.proofs.Handing.{pass-all, lent-anew, hands-on}
-use Rattle.lent.proofs.Shapes.{in-callee, called, contract, Met, types, Telling, telling, knowing, answered, by-walk}
-use Rattle.lent.proofs.Kit.{_≡_, refl, sym, ap, subst, ℕ, _<_, _^_, suc, [], _∷_, _++_, List, URA, fullShare, Name, Fn, Statements, named, Ty, mut}
-use Rattle.lent.proofs.Kit.{w8, tyInt}
-use Rattle.lent.proofs.Kit.{tyBool, tyRef, place, copy, deref, field, rvOpd, op2, eq, int, cond, skip, seq, assign, call, return, local}
-use Rattle.lent.proofs.Kit.{valueLocal, Val, vint}
-use Rattle.lent.proofs.Kit.{SProp, ent, sep, Fml, fat, flft, fobs, fbor, Heap, Calls, Loops, WpFn, Tables, Atoms, sem, Lfts, Shares, Given, Item}
-use Rattle.lent.proofs.Kit.{atRet, ‵}
-use Rattle.lent.proofs.Kit.{raw, _⊛_, ⋆, _$_, _∵_, !, qed, by, move, drop, use1, use2, split, split3, join, rewrite, fsplit, fsplit3, fjoin}
-use Rattle.lent.proofs.Kit.{fjoin3, feqI}
-use Rattle.lent.proofs.Kit.{suffices, frame, done, look, look-raw, init, store-raw, stop, hop, fld, from, load, of-opd, bin, lit, and-then, assigns}
-use Rattle.lent.proofs.Kit.{assigns-last, first, branches, skips, exec, land, returns, enter, alloc1, alloc0, params1, pass1, free0, whole, sub}
-use Rattle.lent.proofs.Kit.{look-in, Body, FmC, fmOf, owns, flat, Is, Are, Ises, shows, mem, pointee, uint-makes, u8, ptr-vals, mut-tells, plain}
-use Rattle.lent.proofs.Kit.{mutRefTo}
-use Rattle.lent.proofs.Kit.{only, owned, facts, Args, Vals, alive, onEntry, Contract, Triple, calls-at, Ended, Lasts, says, Stays}
-use Rattle.lent.proofs.Kit.{stay-ref, walkOf, goes-ref, ends-at, yes}
+use Rattle.lent.proofs.Shapes.{alone, called, function, answers, tested, contract, Met, types, Telling, telling, knowing, answered, by-walk}
+use Rattle.lent.proofs.Kit.{_≡_, refl, sym, ap, subst, ℕ, _<_, _^_, suc, [], _∷_, List, URA, fullShare, Name, Fn, Ty, w8, tyInt, tyBool, place, copy}
+use Rattle.lent.proofs.Kit.{deref, field, rvOpd, seq, assign, call, local, valueLocal, Val, vint, SProp, ent, sep, fat, flft, Heap, Calls, Loops}
+use Rattle.lent.proofs.Kit.{WpFn, Tables, Atoms, sem, Lfts, Shares, Given, Item, atRet, ‵, raw, _⊛_, ⋆, _$_, _∵_, !, qed, by, move, drop, use1, use2}
+use Rattle.lent.proofs.Kit.{split, split3, join, rewrite, fsplit, fsplit3, fjoin, suffices, frame, done, look, look-raw, init, store-raw, stop, hop}
+use Rattle.lent.proofs.Kit.{fld, from, load, of-opd, bin, lit, and-then, assigns, assigns-last, first, branches, skips, exec, land, returns, enter}
+use Rattle.lent.proofs.Kit.{alloc1, alloc0, params1, free0, whole, sub, look-in, FmC, fmOf, owns, flat, Is, Are, Ises, shows, uint-makes, u8, plain}
+use Rattle.lent.proofs.Kit.{only, owned, facts, Args, Vals, alive, onEntry, Contract, Triple, calls-at, Ended, says, Stays, stay-ref, walkOf}
+use Rattle.lent.proofs.Kit.{goes-ref, ends-at}
 
 module _ (ms : List More) (S R : Lent) (O : Outcome (S ∷ R ∷ [])) where
   -- what a contract of the shape says: of what is handed in, of what comes back, and of the rest as it is then
@@ -44,25 +39,20 @@ module _ (ms : List More) (S R : Lent) (O : Outcome (S ∷ R ∷ [])) where
   asked = called ms (rowOf S ∷ rowOf R ∷ []) (outRow O)
 
   abbrev asks : Says → Telling asked
-  asks P κs a r end = P (a .0) (a .1 .0) (ins (in-callee ms, κs) (a .1 .1)) r (ends (in-callee ms, κs) (end .1 .1))
+  asks P κs a r end = P (a .0) (a .1 .0) (ins (alone ms, κs) (a .1 .1)) r (ends (alone ms, κs) (end .1 .1))
 
   abbrev pub Asks : {M : Type 1} (𝓤 : URA M) (H : Heap 𝓤) (A : Atoms 𝓤) → Says → Contract 𝓤
   Asks 𝓤 H A P = contract asked 𝓤 H A (asks P)
 
   -- and the export: they are lent
-  abbrev more : Named ms
-  more = record { n = suc (suc (count ms)); at = λ κs. κs .1 .1; i = 2 }
+  abbrev all-of : List More
+  all-of = fills (rowOf S) ∷ fills (rowOf R) ∷ ms
 
   abbrev lent : Ended
-  lent = record {
-    signature = record {
-      lifetimes = suc (suc (count ms));
-      outlives = [];
-      params = mutRefTo (0 ∷ []) tt (plain (λ _. rowOf S)) ∷ mutRefTo (1 ∷ []) tt (plain (λ _. rowOf R)) ∷ slots more;
-      result = plain (λ _. u8);
-    };
-    kept = (yes, (yes, kepts more));
-  }
+  lent = called all-of [] u8
+
+  abbrev more : Named ms
+  more = then (then (alone all-of))
 
   abbrev lends : Says → Telling lent
   lends P κs a r end =
@@ -75,48 +65,35 @@ module _ (ms : List More) (S R : Lent) (O : Outcome (S ∷ R ∷ [])) where
   abbrev temps : ℕ
   temps = suc (suc (suc out))
 
-  abbrev point : ℕ → Lent → Ty
-  point j X = tyRef (named j) mut (pointee (rowOf X .written))
-
-  abbrev last : Statements
-  last = seq (assign (place 0 []) (rvOpd (copy (place out (field 0 ∷ []))))) return
-
   abbrev code : Name → Fn
-  code g = record {
-    lifetimes = suc (suc (count ms));
-    outlives = [];
-    params = past (params ms 2) 2;
-    locals =
-        local (tyInt w8) valueLocal ∷ local (point 0 S) valueLocal ∷ local (point 1 R) valueLocal
-        ∷ (params ms 2 ++ (local (outMir O) valueLocal ∷ local (mirOf S) valueLocal ∷ local (mirOf R) valueLocal ∷ with-temps ms (local tyBool valueLocal ∷
-        [])));
-    body =
-        seq (assign (place (suc out) []) (rvOpd (copy (place 1 (deref (mirOf S) ∷ [])))))
-        (seq (assign (place (suc (suc out)) []) (rvOpd (copy (place 2 (deref (mirOf R) ∷ [])))))
-        (anew ms 3 temps
-        (seq (call g (copy (place (suc out) []) ∷ copy (place (suc (suc out)) []) ∷ handed ms 3 temps) (place out []))
-        (seq (assign (place (past-temps ms temps) []) (op2 eq (copy (place out (field 0 ∷ []))) (int w8 0)))
-        (seq (cond (copy (place (past-temps ms temps) []))
-        (seq (assign (place 1 (deref (mirOf S) ∷ [])) (rvOpd (copy (place out (field 1 ∷ [])))))
-        (assign (place 2 (deref (mirOf R) ∷ [])) (rvOpd (copy (place out (field 2 ∷ [])))))) skip) last)))));
-  }
+  code g =
+      function all-of
+      (local (outMir O) valueLocal ∷ local (mirOf S) valueLocal ∷ local (mirOf R) valueLocal ∷ with-temps ms (local tyBool valueLocal ∷ []))
+      (seq (assign (place (suc out) []) (rvOpd (copy (place 1 (deref (mirOf S) ∷ [])))))
+      (seq (assign (place (suc (suc out)) []) (rvOpd (copy (place 2 (deref (mirOf R) ∷ [])))))
+      (anew ms 3 temps
+      (seq (call g (copy (place (suc out) []) ∷ copy (place (suc (suc out)) []) ∷ handed ms 3 temps) (place out []))
+      (tested out (past-temps ms temps)
+      (seq (assign (place 1 (deref (mirOf S) ∷ [])) (rvOpd (copy (place out (field 1 ∷ [])))))
+      (assign (place 2 (deref (mirOf R) ∷ [])) (rvOpd (copy (place out (field 2 ∷ [])))))))))))
 
-  module _ (l0 l1 l2 : ℕ) (bs : Spots (params ms 2)) (l3 l4 l5 : ℕ) (ts : Temps ms) (l6 : ℕ) where
+  module _ (l0 : ℕ) (bs : Spots (params all-of 0)) (l3 l4 l5 : ℕ) (ts : Temps ms) (l6 : ℕ) where
     abbrev inner : List (Ty × ℕ)
     inner = (outMir O, l3) ∷ (mirOf S, l4) ∷ (mirOf R, l5) ∷ temps-env ms ts ((tyBool, l6) ∷ [])
 
     abbrev env : List (Ty × ℕ)
-    env = (tyInt w8, l0) ∷ (point 0 S, l1) ∷ (point 1 R, l2) ∷ envIn (params ms 2) bs inner
+    env = (tyInt w8, l0) ∷ envIn (params all-of 0) bs inner
 
     -- where they are
     abbrev Found : Type 0
     Found =
-        At env out (outMir O) l3 × At env (suc out) (mirOf S) l4 × At env (suc (suc out)) (mirOf R) l5 × Sits env 3 (params ms 2) bs × Stand env temps ms ts
+        At env out (outMir O) l3 × At env (suc out) (mirOf S) l4 × At env (suc (suc out)) (mirOf R) l5 × Sits env 3 (params ms 2) (bs .1 .1) × Stand env
+        temps ms ts
         × At env (past-temps ms temps) tyBool l6
 
     found : Found
     found =
-        let p : Sits env 3 (params ms 2) bs × Goes-on env out inner = sits (params ms 2) bs env 3 refl in
+        let p : Sits env 3 (params ms 2) (bs .1 .1) × Goes-on env out inner = sits (params ms 2) (bs .1 .1) env 3 refl in
         let s : Goes-on env (suc out) _ = next env out (p .1) in
         let t : Goes-on env (suc (suc out)) _ = next env (suc out) s in
         let u : Stand env temps ms ts × Goes-on env (past-temps ms temps) _ = stand ms ts env temps (next env (suc (suc out)) t) in
@@ -125,20 +102,20 @@ module _ (ms : List More) (S R : Lent) (O : Outcome (S ∷ R ∷ [])) where
   abbrev stayed : Stays (lent .signature .params) (lent .kept)
   stayed = (stay-ref (0 ∷ []) tt (plain (λ _. rowOf S)), (stay-ref (1 ∷ []) tt (plain (λ _. rowOf R)), given more))
 
-  module _ {M : Type 1} (𝓤 : URA M) (H : Heap 𝓤) (A : Atoms 𝓤) (W : Given 𝓤 H A) (P : Says) (keeps : Keeps P) (κs : Lfts (suc (suc (count ms))))
-      (qs : Shares (suc (suc (count ms)))) (a : Args (lent .signature) κs) where
+  module _ {M : Type 1} (𝓤 : URA M) (H : Heap 𝓤) (A : Atoms 𝓤) (W : Given 𝓤 H A) (P : Says) (keeps : Keeps P) (κs : Lfts (count all-of))
+      (qs : Shares (count all-of)) (a : Args (lent .signature) κs) where
     -- the rest in the two signatures, and what is passed of it
     abbrev F : Has ms
     F = (more, κs)
 
     abbrev G : Has ms
-    G = (in-callee ms, κs .1 .1)
+    G = (alone ms, κs .1 .1)
 
     abbrev x : Passed F
     x = a .1 .1
 
     abbrev at : Vals (lent .signature) κs
-    at = (ptr-vals (a .0), (ptr-vals (a .1 .0), vals F x))
+    at = vals (alone all-of, κs) a
 
     abbrev Post : Val → SProp 𝓤
     Post = walkOf 𝓤 H A lent stayed (telling lent 𝓤 (lends P)) .post ((κs, qs, tt, a, at), tt)
@@ -192,63 +169,62 @@ module _ (ms : List More) (S R : Lent) (O : Outcome (S ∷ R ∷ [])) where
     walk g C Λ fm known are =
         qed W ((‵ (flft (κs .0) (qs .0)) ⊛ ‵ (flft (κs .1 .0) (qs .1 .0)) ⊛ raw Tokens) ∷ ‵ (owns (types lent κs) a at) ∷ []) ∵
         enter ! C Λ (code g) (flat (types lent κs) at) _ $
-        alloc1 ! (λ l0. alloc1 ! (λ l1. alloc1 ! (λ l2. alloc-all ! (params ms 2) _ (λ bs. alloc1 ! (λ l3. alloc1 ! (λ l4. alloc1 ! (λ l5. alloc-temps ! ms
-        _ (λ ts.
-        alloc1 ! (λ l6. alloc0 ! $ params1 ! $ pass1 ! (init ! 12 refl (tt, tt)) $ pass1 ! (init ! 10 refl (tt, tt)) $ move ! (9 ∷ []) $
-        pass-all ! (inner l0 l1 l2 bs l3 l4 l5 ts l6) F bs x (are .1 .1) $
+        alloc1 ! (λ l0. alloc-all ! (params all-of 0) _ (λ bs. alloc1 ! (λ l3. alloc1 ! (λ l4. alloc1 ! (λ l5. alloc-temps ! ms _ (λ ts. alloc1 ! (λ l6.
+        alloc0 ! $ params1 ! $ move ! (9 ∷ []) $ pass-all ! (inner l0 bs l3 l4 l5 ts l6) (alone all-of, κs) bs a are $
+        split ! $ split ! $ move ! (2 ∷ []) $ split ! $ split ! $
         move ! (17 ∷ []) $ fsplit ! $ fsplit3 ! $ drop ! $ move ! (2 ∷ []) $ fsplit ! $ fsplit3 ! $ drop ! $ move ! (21 ∷ []) $ split3 ! $
         -- [the two tokens; the tokens of the rest; R's obs and borrow; what the rest owns; S's obs and borrow; the locals]
         move ! (6 ∷ 7 ∷ 0 ∷ []) $ opened S (a .0) was-S ! tt (λ k-S.
         move ! (6 ∷ 7 ∷ 4 ∷ []) $ opened R (a .1 .0) was-R ! tt (λ k-R.
-        knowing ! (found l0 l1 l2 bs l3 l4 l5 ts l6) (λ at-l.
+        knowing ! (found l0 bs l3 l4 l5 ts l6) (λ at-l.
         -- [R's cell, open borrow, obs, auth; S's; the tokens of the rest; what they own; the rest's locals, the test, what is lent anew, the copies, what
         -- comes
         -- back, the pointers, the answer]
-        assigns ! (of-opd ! (load ! (from ! (hop ! (look ! 22 refl) (stop !))) (look-raw ! 4 refl))) (from-at ! (at-l .1) (stop !))
-        (init ! 16 refl (laws.lawful (S .type) (S .the-laws) 𝓤 H A W .typed was-S _ k-S .0)) $
-        assigns ! (of-opd ! (load ! (from ! (hop ! (look ! 20 refl) (stop !))) (look-raw ! 0 refl))) (from-at ! (at-l .2) (stop !))
-        (init ! 14 refl (laws.lawful (R .type) (R .the-laws) 𝓤 H A W .typed was-R _ k-R .0)) $
-        move ! (10 ∷ 13 ∷ []) $ lent-anew ! F 3 temps bs ts x (are .1 .1) (at-l .3) (at-l .4) $
+        assigns ! (of-opd ! (load ! (from ! (hop ! (look ! 13 refl) (stop !))) (look-raw ! 4 refl))) (from-at ! (at-l .1) (stop !))
+        (init ! 20 refl (laws.lawful (S .type) (S .the-laws) 𝓤 H A W .typed was-S _ k-S .0)) $
+        assigns ! (of-opd ! (load ! (from ! (hop ! (look ! 10 refl) (stop !))) (look-raw ! 0 refl))) (from-at ! (at-l .2) (stop !))
+        (init ! 18 refl (laws.lawful (R .type) (R .the-laws) 𝓤 H A W .typed was-R _ k-R .0)) $
+        move ! (12 ∷ 17 ∷ []) $ lent-anew ! F 3 temps (bs .1 .1) ts x (are .1 .1) (at-l .3) (at-l .4) $
         move ! (10 ∷ 11 ∷ []) $ use2 W (raw (Asks 𝓤 H A P .pre to-callee)) (goes-in k-S k-R) $
         -- [what g asks for; the rest's locals, what is lent anew; R's four; S's; the other locals]
         calls-at ! fm (Asks 𝓤 H A P) known to-callee
-        (and-then ! (load ! (from-at ! (at-l .1) (stop !)) (look ! 15 refl)) (and-then ! (load ! (from-at ! (at-l .2) (stop !)) (look ! 13 refl))
-        (hands-on ! F G 3 temps bs ts x (at-l .3) (at-l .4) (record { read = λ p. look-in ! 1 p }) (record { read = λ p. look-in ! 2 p }))))
+        (and-then ! (load ! (from-at ! (at-l .1) (stop !)) (look ! 19 refl)) (and-then ! (load ! (from-at ! (at-l .2) (stop !)) (look ! 17 refl))
+        (hands-on ! F G 3 temps (bs .1 .1) ts x (at-l .3) (at-l .4) (record { read = λ p. look-in ! 1 p }) (record { read = λ p. look-in ! 2 p }))))
         (λ w. answered asked ! tt (asks P) (to-callee .0) w (λ r zs e. fsplit ! $ drop ! $ fsplit ! $ drop ! $ move ! (1 ∷ []) $
         facts ! (outRow O) (Is (outRow O)) (shows 𝓤 H A (outRow O)) r (w ∷ []) (λ is.
         -- [the last values of the rest; their tokens, locals, what is lent anew; R's four; S's; the other locals]
-        land ! (from-at ! (at-l .0) (stop !)) (init ! 18 refl (laws.lawful (typeOf O) (outcomeLaws O) 𝓤 H A W .typed r _ is .0)) $
-        rewrite ! 18 (λ (u : Val). ‵ (fat fullShare (outMir O) l3 0 u)) (ap only (laws.tells (typeOf O) (outcomeLaws O) r _ is)) refl $
-        assigns ! (bin ! (load ! (from-at ! (at-l .0) (fld ! refl (stop !))) (look-in ! 18 (sub ! 0 refl (whole !)))) (lit ! tt) tt) (from-at ! (at-l .5)
+        land ! (from-at ! (at-l .0) (stop !)) (init ! 22 refl (laws.lawful (typeOf O) (outcomeLaws O) 𝓤 H A W .typed r _ is .0)) $
+        rewrite ! 22 (λ (u : Val). ‵ (fat fullShare (outMir O) l3 0 u)) (ap only (laws.tells (typeOf O) (outcomeLaws O) r _ is)) refl $
+        assigns ! (bin ! (load ! (from-at ! (at-l .0) (fld ! refl (stop !))) (look-in ! 22 (sub ! 0 refl (whole !)))) (lit ! tt) tt) (from-at ! (at-l .5)
         (stop !))
-        (init ! 12 refl (tt, tt)) $ first ! $ branches ! (load ! (from-at ! (at-l .5) (stop !)) (look ! 12 refl))
+        (init ! 16 refl (tt, tt)) $ first ! $ branches ! (load ! (from-at ! (at-l .5) (stop !)) (look ! 16 refl))
         -- the answer is 0: both are stored
         (λ on.
-        assigns ! (of-opd ! (load ! (from-at ! (at-l .0) (fld ! refl (stop !))) (look-in ! 18 (sub ! 1 refl (whole !))))) (from ! (hop ! (look ! 22 refl)
+        assigns ! (of-opd ! (load ! (from-at ! (at-l .0) (fld ! refl (stop !))) (look-in ! 22 (sub ! 1 refl (whole !))))) (from ! (hop ! (look ! 14 refl)
         (stop !)))
         (store-raw ! 8 refl (laws.lawful (S .type) (S .the-laws) 𝓤 H A W .typed _ _ (laws.owed (typeOf O) (outcomeLaws O) r _ is .1 .0) .0)) $
-        assigns-last ! (of-opd ! (load ! (from-at ! (at-l .0) (fld ! refl (stop !))) (look-in ! 18 (sub ! 2 refl (whole !))))) (from ! (hop ! (look ! 20
+        assigns-last ! (of-opd ! (load ! (from-at ! (at-l .0) (fld ! refl (stop !))) (look-in ! 22 (sub ! 2 refl (whole !))))) (from ! (hop ! (look ! 12
         refl) (stop !)))
         (store-raw ! 4 refl (laws.lawful (R .type) (R .the-laws) 𝓤 H A W .typed _ _ (laws.owed (typeOf O) (outcomeLaws O) r _ is .1 .1 .0) .0)) $
-        exec ! C Λ (env l0 l1 l2 bs l3 l4 l5 ts l6) last (atRet (env l0 l1 l2 bs l3 l4 l5 ts l6) Post) $
-        assigns ! (of-opd ! (load ! (from-at ! (at-l .0) (fld ! refl (stop !))) (look-in ! 18 (sub ! 0 refl (whole !))))) (from ! (stop !))
+        exec ! C Λ (env l0 bs l3 l4 l5 ts l6) (answers out) (atRet (env l0 bs l3 l4 l5 ts l6) Post) $
+        assigns ! (of-opd ! (load ! (from-at ! (at-l .0) (fld ! refl (stop !))) (look-in ! 22 (sub ! 0 refl (whole !))))) (from ! (stop !))
         (init ! 24 refl (tt, fit (laws.owed (typeOf O) (outcomeLaws O) r _ is .0 .1))) $
         move ! (4 ∷ 5 ∷ 6 ∷ 7 ∷ []) $ shut R (a .1 .0) (O .values r .1 .1 .0) ! tt (laws.owed (typeOf O) (outcomeLaws O) r _ is .1 .1 .0) $
         move ! (7 ∷ 8 ∷ 9 ∷ 10 ∷ []) $ shut S (a .0) (O .values r .1 .0) ! tt (laws.owed (typeOf O) (outcomeLaws O) r _ is .1 .0) $
         -- [what is had of S; of R; the last values of the rest; their tokens, locals, what is lent anew; the other locals]
-        returns ! (look ! 22 refl) $ move ! (22 ∷ 23 ∷ 20 ∷ 21 ∷ 18 ∷ 19 ∷ 8 ∷ 16 ∷ 17 ∷ 14 ∷ 15 ∷ 12 ∷ 13 ∷ 9 ∷ 10 ∷ 11 ∷ []) $ gone ! $ gone ! $ gone ! $
-        free-all ! (params ms 2) bs (cells F x) $ gone ! $ gone ! $ gone ! $ free-temps ! F ts x $ gone ! $ free0 ! $
+        returns ! (look ! 22 refl) $ move ! (22 ∷ 23 ∷ 12 ∷ 13 ∷ 10 ∷ 11 ∷ 8 ∷ 20 ∷ 21 ∷ 18 ∷ 19 ∷ 16 ∷ 17 ∷ 9 ∷ 14 ∷ 15 ∷ []) $ gone ! $ gone ! $ gone ! $
+        free-all ! (params ms 2) (bs .1 .1) (cells F x) $ gone ! $ gone ! $ gone ! $ free-temps ! F ts x $ gone ! $ free0 ! $
         by ! (exits (O .values r .1 .0) (O .values r .1 .1 .0) (zs .1 .1) r (sym (O .eta r)) e (laws.owed (typeOf O) (outcomeLaws O) r _ is .0 .1)))
         -- it isn't: they stay as they were
-        (λ off. skips ! $ exec ! C Λ (env l0 l1 l2 bs l3 l4 l5 ts l6) last (atRet (env l0 l1 l2 bs l3 l4 l5 ts l6) Post) $
-        assigns ! (of-opd ! (load ! (from-at ! (at-l .0) (fld ! refl (stop !))) (look-in ! 18 (sub ! 0 refl (whole !))))) (from ! (stop !))
+        (λ off. skips ! $ exec ! C Λ (env l0 bs l3 l4 l5 ts l6) (answers out) (atRet (env l0 bs l3 l4 l5 ts l6) Post) $
+        assigns ! (of-opd ! (load ! (from-at ! (at-l .0) (fld ! refl (stop !))) (look-in ! 22 (sub ! 0 refl (whole !))))) (from ! (stop !))
         (init ! 24 refl (tt, fit (laws.owed (typeOf O) (outcomeLaws O) r _ is .0 .1))) $
         move ! (4 ∷ 5 ∷ 6 ∷ 7 ∷ []) $ shut R (a .1 .0) was-R ! tt k-R $
         move ! (7 ∷ 8 ∷ 9 ∷ 10 ∷ []) $ shut S (a .0) was-S ! tt k-S $
         -- [what is had of S; of R; the last values of the rest; their tokens, locals, what is lent anew; the other locals]
-        returns ! (look ! 22 refl) $ move ! (22 ∷ 23 ∷ 20 ∷ 21 ∷ 18 ∷ 19 ∷ 8 ∷ 16 ∷ 17 ∷ 14 ∷ 15 ∷ 12 ∷ 13 ∷ 9 ∷ 10 ∷ 11 ∷ []) $ gone ! $ gone ! $ gone ! $
-        free-all ! (params ms 2) bs (cells F x) $ gone ! $ gone ! $ gone ! $ free-temps ! F ts x $ gone ! $ free0 ! $
-        by ! (exits was-S was-R (zs .1 .1) r (keeps was-S was-R _ r _ e (off-0 off)) e (laws.owed (typeOf O) (outcomeLaws O) r _ is .0 .1))))))))))))))))))
+        returns ! (look ! 22 refl) $ move ! (22 ∷ 23 ∷ 12 ∷ 13 ∷ 10 ∷ 11 ∷ 8 ∷ 20 ∷ 21 ∷ 18 ∷ 19 ∷ 16 ∷ 17 ∷ 9 ∷ 14 ∷ 15 ∷ []) $ gone ! $ gone ! $ gone ! $
+        free-all ! (params ms 2) (bs .1 .1) (cells F x) $ gone ! $ gone ! $ gone ! $ free-temps ! F ts x $ gone ! $ free0 ! $
+        by ! (exits was-S was-R (zs .1 .1) r (keeps was-S was-R _ r _ e (off-0 off)) e (laws.owed (typeOf O) (outcomeLaws O) r _ is .0 .1))))))))))))))))
 
   pub meets : {M : Type 1} (𝓤 : URA M) (H : Heap 𝓤) (A : Atoms 𝓤) (W : Given 𝓤 H A) (P : Says) → Keeps P → (g : Name) (𝓣 : Tables 𝓤 H)
       → Triple 𝓤 (𝓣 .C g) (Asks 𝓤 H A P)
@@ -256,6 +232,5 @@ module _ (ms : List More) (S R : Lent) (O : Outcome (S ∷ R ∷ [])) where
   meets 𝓤 H A W P keeps g 𝓣 known =
       by-walk lent 𝓤 H A W (lends P) 𝓣 (code g) stayed
       (goes-ref 𝓤 H A W (more .n) 0 tt (plain (λ _. rowOf S)), (goes-ref 𝓤 H A W (more .n) 1 tt (plain (λ _. rowOf R)), go-on 𝓤 H A W more))
-      (λ κs. (ptr-vals, (ptr-vals, spells (more, κs))))
-      (λ κs. (mut-tells (named 0) (κs .0) (rowOf S), (mut-tells (named 1) (κs .1 .0) (rowOf R), tellss (more, κs))))
+      (λ κs. spells (alone all-of, κs)) (λ κs. tellss (alone all-of, κs))
       (λ κs qs bounds a are. walk 𝓤 H A W P keeps κs qs a g (𝓣 .C) (𝓣 .Λ) (fmOf 𝓤 H (W .laws) 𝓣) known are)
