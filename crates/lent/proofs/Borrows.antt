@@ -1,6 +1,5 @@
--- A struct behind a pointer: what is had of one behind a `&mut`, which is opened, with its machine values written out, and closed at another value; one
--- step each
--- of a walk.
+-- A struct behind a pointer: what is had of one behind a `&mut`, which is opened, with its machine values written out, and closed at another value;
+-- one step each of a walk.
 -- Assumes nothing.
 use mathlib.Core.Path.{refl}
 use mathlib.Core.List.{[], _∷_, List}
@@ -43,9 +42,8 @@ module _ (S : Lent) (p : RefT (S .type .D)) where
         ∷ ‵ (fauth (p .name) (rowOf S .coded .code d)) ∷ Γ) G) → Seq K W (behind κ q d Γ) G
     opened d t z then =
         opens t z (rowOf S) {h = d} (p .ptr .0) (p .ptr .1)
-        (λ vs. spelt t (rowOf S) (Is (rowOf S)) (shows 𝓤 H A (rowOf S)) (valsOf S) (laws.tells (S .type) (S .the-laws)) fullShare d vs (p .ptr .0) (p .ptr
-        .1) $
-        move t (1 ∷ []) $ facts t (rowOf S) (Is (rowOf S)) (shows 𝓤 H A (rowOf S)) d (valsOf S d) then)
+        (λ vs. spelt t (rowOf S) (Is (rowOf S)) (shows 𝓤 H A (rowOf S)) (valsOf S) (laws.tells (S .type) (S .the-laws)) fullShare d vs
+        (p .ptr .0) (p .ptr .1) $ move t (1 ∷ []) $ facts t (rowOf S) (Is (rowOf S)) (shows 𝓤 H A (rowOf S)) d (valsOf S d) then)
 
     pub shut : {q : Share} (d : S .type .D) → K → Soaks G → {u v : Gv} → Whole S d
         → Step K W (behind κ q d Γ) G (‵ (cell d) ∷ ‵ (open-borrow κ q) ∷ ‵ (fobs (p .name) u) ∷ ‵ (fauth (p .name) v) ∷ Γ) G

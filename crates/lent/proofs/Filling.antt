@@ -1,11 +1,10 @@
--- The walk of every export that is lent one struct to change, and then any parameters of `Rest`. It goes as that of `Storing`, and an export cites `meets`
--- in the
--- same way.
+-- The walk of every export that is lent one struct to change, and then any parameters of `Rest`. It goes as that of `Storing`, and an export cites
+-- `meets` in the same way.
 -- Assumes nothing.
 use denote.Struct.Laws as laws
 use Rattle.lent.proofs.Borrows.{behind, opened, shut, again, made}
 use Rattle.lent.proofs.Structs.{fit, Lent, Outcome, Whole, rowOf, mirOf, valsOf, typeOf, outRow, outMir, outcomeLaws, off-0}
-use Rattle.lent.proofs.Locals.{Spots, envIn, At, Sits, Goes-on, past, here, next, sits, alloc-all, free-all, gone, from-at}
+use Rattle.lent.proofs.Locals.{Spots, envIn, At, Sits, Goes-on, past, here, next, sits, alloc-all, free-all, gone, from-at, inside}
 use Rattle.lent.proofs.Rest.{More, count, Named, then, Has, rows, Passed, spells, tellss, vals, Views, ins, ends, Lasting, lefts, to, back, same-said}
 use Rattle.lent.proofs.Rest.{given, fits, go-on, owns-to, lasting, had, lasts-back}
 use Rattle.lent.proofs.Params.{fills}
@@ -71,9 +70,8 @@ module _ (ms : List More) (R : Lent) (O : Outcome (R ∷ [])) where
     abbrev env : List (Ty × ℕ)
     env = (tyInt w8, l0) ∷ envIn (params all-of 0) bs inner
 
-    found : At env out (outMir O) l2 × At env (suc out) (mirOf R) l3 × Sits env 2 (params ms 1) (bs .1) × Stand env temps ms ts × At env (past-temps ms
-        temps)
-        tyBool l4
+    found : At env out (outMir O) l2 × At env (suc out) (mirOf R) l3 × Sits env 2 (params ms 1) (bs .1) × Stand env temps ms ts
+        × At env (past-temps ms temps) tyBool l4
     found =
         let p : Sits env 2 (params ms 1) (bs .1) × Goes-on env out inner = sits (params ms 1) (bs .1) env 2 refl in
         let s : Goes-on env (suc out) _ = next env out (p .1) in
@@ -97,11 +95,14 @@ module _ (ms : List More) (R : Lent) (O : Outcome (R ∷ [])) where
     abbrev G : Has ms
     G = (alone ms, κs .1)
 
+    abbrev y : Passed G
+    y = to F G x
+
     abbrev at : Vals (lent .signature) κs
     at = vals (alone all-of, κs) a
 
     abbrev to-callee : Asks 𝓤 H A P .Ghost
-    to-callee = ((κs .1, qs .1, tt, (was, to F G x), (valsOf R was, vals G (to F G x))), tt)
+    to-callee = ((κs .1, qs .1, tt, (was, y), (valsOf R was, vals G y)), tt)
 
     abbrev Tokens : SProp 𝓤
     Tokens = alive 𝓤 H A (asked .signature) (κs .1) (qs .1)
@@ -112,22 +113,22 @@ module _ (ms : List More) (R : Lent) (O : Outcome (R ∷ [])) where
     goes-in : Whole R was → ent 𝓤 (sep 𝓤 Tokens (sem 𝓤 H A (owns (rows F) x (vals F x)))) (Asks 𝓤 H A P .pre to-callee)
     goes-in k =
         qed W (raw Tokens ∷ ‵ (owns (rows F) x (vals F x)) ∷ []) ∵ move ! (1 ∷ []) $
-        use1 W (‵ (owns (rows G) (to F G x) (vals G (to F G x)))) (owns-to 𝓤 H A F G refl x) $
+        use1 W (‵ (owns (rows G) y (vals G y))) (owns-to 𝓤 H A F G refl x) $
         made ! R was k $ fjoin ! $ move ! (1 ∷ 0 ∷ []) $ join ! $ frame ! $ done !
 
     -- what is had at the end, with t behind the pointer and the rest as g left it
-    module _ (t : R .type .D) (z : Lasting G (to F G x)) where
+    module _ (t : R .type .D) (z : Lasting G y) where
       abbrev Had : List (Item 𝓤)
-      Had = behind R (a .0) (κs .0) (qs .0) t (‵ (lasting G (to F G x) z) ∷ raw Tokens ∷ [])
+      Had = behind R (a .0) (κs .0) (qs .0) t (‵ (lasting G y z) ∷ raw Tokens ∷ [])
 
-      exits : (r : O .D) → r ≡ O .make (O .values r .0, (t, tt)) → P was (ins G (to F G x)) r (ends G (lefts G (to F G x) z)) → O .values r .0 < 2 ^ 8
+      exits : (r : O .D) → r ≡ O .make (O .values r .0, (t, tt)) → P was (ins G y) r (ends G (lefts G y z)) → O .values r .0 < 2 ^ 8
           → ent 𝓤 (⋆ 𝓤 H A Had) (Post (vint w8 (O .values r .0)))
       exits r same e small =
           qed W Had ∵
           suffices ! _ (ends-at 𝓤 H A lent stayed (telling lent 𝓤 (lends P)) W ((κs, qs, tt, a, at), tt) (vint w8 (O .values r .0)) (O .values r .0)
           (t, back F G x z) (tt, fits F x (back F G x z))) $
           says ! (same-said F G (λ v w. P was v (O .make (O .values r .0, (t, tt))) w) x z
-          (subst (λ (y : O .D). P was (ins G (to F G x)) y (ends G (lefts G (to F G x) z))) same e)) $
+          (subst (λ (u : O .D). P was (ins G y) u (ends G (lefts G y z))) same e)) $
           move ! (2 ∷ 4 ∷ []) $ join ! $ frame ! $ move ! (2 ∷ []) $ use1 W (‵ (had F x (back F G x z))) (lasts-back 𝓤 H A F G x z) $
           move ! (1 ∷ 2 ∷ []) $ again R (a .0) ! $ fjoin ! $ frame ! $ owned ! u8 (Is u8) (uint-makes 𝓤 H A W w8) (O .values r .0) _ (refl, small) $ done !
 
@@ -135,49 +136,45 @@ module _ (ms : List More) (R : Lent) (O : Outcome (R ∷ [])) where
         → ent 𝓤 (onEntry 𝓤 H A (lent .signature) κs qs a at) (WpFn 𝓤 H C Λ (code g) (flat (types lent κs) at) Post)
     walk g C Λ fm known are =
         qed W ((‵ (flft (κs .0) (qs .0)) ⊛ raw Tokens) ∷ ‵ (owns (types lent κs) a at) ∷ []) ∵ enter ! C Λ (code g) (flat (types lent κs) at) _ $
-        alloc1 ! (λ l0. alloc-all ! (params all-of 0) _ (λ bs. alloc1 ! (λ l2. alloc1 ! (λ l3. alloc-temps ! ms _ (λ ts. alloc1 ! (λ l4. alloc0 ! $
-        params1 ! $
-        move ! (7 ∷ []) $ pass-all ! (inner l0 bs l2 l3 ts l4) (alone all-of, κs) bs a are $ split ! $ split ! $
+        alloc1 ! (λ l0. alloc-all ! (params all-of 0) _ (λ bs. alloc1 ! (λ l2. alloc1 ! (λ l3. alloc-temps ! ms _ (λ ts. alloc1 ! (λ l4.
+        alloc0 ! $ params1 ! $ move ! (7 ∷ []) $ pass-all ! (inner l0 bs l2 l3 ts l4) (alone all-of, κs) bs a are $ split ! $ split ! $
         move ! (13 ∷ []) $ fsplit ! $ fsplit3 ! $ drop ! $ move ! (15 ∷ []) $ split ! $
         -- [the token; the tokens of the rest; the struct's obs and borrow; what the rest owns; the locals]
         move ! (2 ∷ 3 ∷ 0 ∷ []) $ opened R (a .0) was ! tt (λ k. knowing ! (found l0 bs l2 l3 ts l4) (λ at-l.
-        -- [its cell, open borrow, obs, auth; the tokens of the rest; what they own; the rest's locals, the test, what is lent anew, the copy, what comes
-        -- back,
-        -- the pointer, the answer]
+        -- [its cell, open borrow, obs, auth; the tokens of the rest; what they own; the rest's locals, the test, what is lent anew, the copy, what
+        -- comes back, the pointer, the answer]
         assigns ! (of-opd ! (load ! (from ! (hop ! (look ! 6 refl) (stop !))) (look-raw ! 0 refl))) (from-at ! (at-l .1) (stop !))
         (init ! 12 refl (laws.lawful (R .type) (R .the-laws) 𝓤 H A W .typed was _ k .0)) $
         move ! (8 ∷ 11 ∷ []) $ lent-anew ! F 2 temps (bs .1) ts x (are .1) (at-l .2) (at-l .3) $
         move ! (6 ∷ 7 ∷ []) $ use2 W (raw (Asks 𝓤 H A P .pre to-callee)) (goes-in k) $
         calls-at ! fm (Asks 𝓤 H A P) known to-callee
         (and-then ! (load ! (from-at ! (at-l .1) (stop !)) (look ! 11 refl))
-        (hands-on ! F G 2 temps (bs .1) ts x (at-l .2) (at-l .3) (record { read = λ p. look-in ! 1 p }) (record { read = λ p. look-in ! 2 p })))
+        (hands-on ! F G 2 temps (bs .1) ts x (at-l .2) (at-l .3) (inside ! 1) (inside ! 2)))
         (λ w. answered asked ! tt (asks P) (to-callee .0) w (λ r zs e. fsplit ! $ drop ! $ move ! (1 ∷ []) $
-        facts ! (outRow O) (Is (outRow O)) (shows 𝓤 H A (outRow O)) r (w ∷ []) (λ is.
+        facts ! (outRow O) (Is (outRow O)) (shows 𝓤 H A (outRow O)) r (w ∷ []) (λ is. knowing ! (laws.owed (typeOf O) (outcomeLaws O) r _ is) (λ own.
         -- [the last values of the rest; their tokens, locals, what is lent anew; the struct's four; the other locals]
         land ! (from-at ! (at-l .0) (stop !)) (init ! 14 refl (laws.lawful (typeOf O) (outcomeLaws O) 𝓤 H A W .typed r _ is .0)) $
         rewrite ! 14 (λ (u : Val). ‵ (fat fullShare (outMir O) l2 0 u)) (ap only (laws.tells (typeOf O) (outcomeLaws O) r _ is)) refl $
-        assigns ! (bin ! (load ! (from-at ! (at-l .0) (fld ! refl (stop !))) (look-in ! 14 (sub ! 0 refl (whole !)))) (lit ! tt) tt) (from-at ! (at-l .4)
-        (stop !))
-        (init ! 10 refl (tt, tt)) $ first ! $ branches ! (load ! (from-at ! (at-l .4) (stop !)) (look ! 10 refl))
+        assigns ! (bin ! (load ! (from-at ! (at-l .0) (fld ! refl (stop !))) (look-in ! 14 (sub ! 0 refl (whole !)))) (lit ! tt) tt)
+        (from-at ! (at-l .4) (stop !)) (init ! 10 refl (tt, tt)) $ first ! $ branches ! (load ! (from-at ! (at-l .4) (stop !)) (look ! 10 refl))
         -- the answer is 0: it is stored
         (λ on.
-        assigns-last ! (of-opd ! (load ! (from-at ! (at-l .0) (fld ! refl (stop !))) (look-in ! 14 (sub ! 1 refl (whole !))))) (from ! (hop ! (look ! 8
-        refl) (stop !)))
-        (store-raw ! 4 refl (laws.lawful (R .type) (R .the-laws) 𝓤 H A W .typed _ _ (laws.owed (typeOf O) (outcomeLaws O) r _ is .1 .0) .0)) $
+        assigns-last ! (of-opd ! (load ! (from-at ! (at-l .0) (fld ! refl (stop !))) (look-in ! 14 (sub ! 1 refl (whole !)))))
+        (from ! (hop ! (look ! 8 refl) (stop !))) (store-raw ! 4 refl (laws.lawful (R .type) (R .the-laws) 𝓤 H A W .typed _ _ (own .1 .0) .0)) $
         exec ! C Λ (env l0 bs l2 l3 ts l4) (answers out) (atRet (env l0 bs l2 l3 ts l4) Post) $
         assigns ! (of-opd ! (load ! (from-at ! (at-l .0) (fld ! refl (stop !))) (look-in ! 14 (sub ! 0 refl (whole !))))) (from ! (stop !))
-        (init ! 16 refl (tt, fit (laws.owed (typeOf O) (outcomeLaws O) r _ is .0 .1))) $ move ! (4 ∷ 5 ∷ 6 ∷ 7 ∷ []) $
-        shut R (a .0) (O .values r .1 .0) ! tt (laws.owed (typeOf O) (outcomeLaws O) r _ is .1 .0) $
+        (init ! 16 refl (tt, fit (own .0 .1))) $ move ! (4 ∷ 5 ∷ 6 ∷ 7 ∷ []) $
+        shut R (a .0) (O .values r .1 .0) ! tt (own .1 .0) $
         returns ! (look ! 15 refl) $ move ! (15 ∷ 16 ∷ 7 ∷ 8 ∷ 5 ∷ 13 ∷ 14 ∷ 11 ∷ 12 ∷ 6 ∷ 9 ∷ 10 ∷ []) $ gone ! $ gone ! $
         free-all ! (params ms 1) (bs .1) (cells F x) $ gone ! $ gone ! $ free-temps ! F ts x $ gone ! $ free0 ! $
-        by ! (exits (O .values r .1 .0) (zs .1) r (sym (O .eta r)) e (laws.owed (typeOf O) (outcomeLaws O) r _ is .0 .1)))
+        by ! (exits (O .values r .1 .0) (zs .1) r (sym (O .eta r)) e (own .0 .1)))
         -- it isn't: it stays as it was
         (λ off. skips ! $ exec ! C Λ (env l0 bs l2 l3 ts l4) (answers out) (atRet (env l0 bs l2 l3 ts l4) Post) $
         assigns ! (of-opd ! (load ! (from-at ! (at-l .0) (fld ! refl (stop !))) (look-in ! 14 (sub ! 0 refl (whole !))))) (from ! (stop !))
-        (init ! 16 refl (tt, fit (laws.owed (typeOf O) (outcomeLaws O) r _ is .0 .1))) $ move ! (4 ∷ 5 ∷ 6 ∷ 7 ∷ []) $ shut R (a .0) was ! tt k $
+        (init ! 16 refl (tt, fit (own .0 .1))) $ move ! (4 ∷ 5 ∷ 6 ∷ 7 ∷ []) $ shut R (a .0) was ! tt k $
         returns ! (look ! 15 refl) $ move ! (15 ∷ 16 ∷ 7 ∷ 8 ∷ 5 ∷ 13 ∷ 14 ∷ 11 ∷ 12 ∷ 6 ∷ 9 ∷ 10 ∷ []) $ gone ! $ gone ! $
         free-all ! (params ms 1) (bs .1) (cells F x) $ gone ! $ gone ! $ free-temps ! F ts x $ gone ! $ free0 ! $
-        by ! (exits was (zs .1) r (keeps was _ r _ e (off-0 off)) e (laws.owed (typeOf O) (outcomeLaws O) r _ is .0 .1))))))))))))))
+        by ! (exits was (zs .1) r (keeps was _ r _ e (off-0 off)) e (own .0 .1)))))))))))))))
 
   pub meets : {M : Type 1} (𝓤 : URA M) (H : Heap 𝓤) (A : Atoms 𝓤) (W : Given 𝓤 H A) (P : Says) → Keeps P → (g : Name) (𝓣 : Tables 𝓤 H)
       → Triple 𝓤 (𝓣 .C g) (Asks 𝓤 H A P) → Met lent 𝓤 H A (lends P) 𝓣 (code g)

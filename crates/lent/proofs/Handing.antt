@@ -1,6 +1,5 @@
--- The code that hands the parameters after the structs on to the callee, and its steps: the arguments are stored, what is lent anew is, and they are read
--- for the call.
--- The parameters' locals are one entry of the context, and those of what is lent anew another.
+-- The code that hands the parameters after the structs on to the callee, and its steps: the arguments are stored, what is lent anew is, and they are
+-- read for the call. The parameters' locals are one entry of the context, and those of what is lent anew another.
 -- Assumes nothing.
 use mathlib.Core.Path.{refl}
 use Prim.Native.Nat.{ℕ, suc}

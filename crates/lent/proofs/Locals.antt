@@ -12,10 +12,10 @@ use base.Logic.{ent, SProp, wand, all, id⊢, comm∗, allE, apply∗}
 use base.Fml.{Share, ftrue, froom, fdies, fat}
 use prog.Wp.{Heap, Env, Spot, walk}
 use ghost.Atoms.{Atoms}
-use types.Kit.{Goal, allocs, frees, Seq, Step, step, Given, Item, ‵, raw, _⊛_, mean, ⋆, _$_, _∵_, !, qed, move, split, join, drop, use1, use2, frame, each}
-use types.Kit.{assume, done}
+use types.Kit.{Goal, allocs, frees, Seq, Step, step, Given, Item, ‵, raw, _⊛_, mean, ⋆, nth, _$_, _∵_, !, qed, move, split, join, drop, use1, use2, frame}
+use types.Kit.{each, assume, done}
 use types.Run.{Walks, Finds, Reads, forget, alloc1, free1}
-use types.Part.{Part}
+use types.Part.{Part, look-in}
 use denote.Steps.{nothing}
 
 -- a place for each
@@ -67,14 +67,9 @@ next (x ∷ E) (suc n) e = next E n e
 pub sits : (ls : List Local) (bs : Spots ls) (E : List (Ty × ℕ)) (n : ℕ) {E′ : List (Ty × ℕ)} → Goes-on E n (envIn ls bs E′)
     → Sits E n ls bs × Goes-on E (past ls n) E′
 sits [] bs E n e = (tt, e)
-sits (local τ h ∷ ls) bs E n e = let r : Sits E (suc n) ls (bs .1) × Goes-on E (past ls (suc n)) _ = sits ls (bs .1) E (suc n) (next E n e) in (
-  (
-    here E n
-        e,
-    r .0,
-  ),
-  r .1,
-)
+sits (local τ h ∷ ls) bs E n e =
+    let r : Sits E (suc n) ls (bs .1) × Goes-on E (past ls (suc n)) _ = sits ls (bs .1) E (suc n) (next E n e) in
+    ((here E n e, r .0), r .1)
 
 module _ {M : Type 1} (𝓤 : URA M) where
   -- empty, and with values in them
@@ -138,6 +133,9 @@ module _ {M : Type 1} {𝓤 : URA M} {H : Heap 𝓤} {A : Atoms 𝓤} {K : Type 
     from-at t {E} {st = st} e w = record {
       go = λ Kt h. subst (λ (x : Ty × ℕ). ent 𝓤 (⋆ 𝓤 H A Γ) (walk 𝓤 H E (x .0, x .1, zero) st Kt)) (sym e) (w .go Kt h);
     }
+
+    pub inside : K → (n : ℕ) → Inside K W Γ (nth 𝓤 H A n Γ)
+    inside t n = record { read = λ p. look-in t n p }
 
     -- so can what is within a part of it
     pub left-of : {i j : Item 𝓤} → Inside K W Γ (i ⊛ j) → Inside K W Γ i

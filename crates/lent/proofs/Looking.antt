@@ -1,11 +1,10 @@
--- The walk of every export that is lent one struct to read, and then any parameters of `Rest`: the struct is looked into, copied out and handed to g by
--- value, with all
--- else, and the borrow is shut. It goes as that of `Storing`, and an export cites `meets` in the same way.
+-- The walk of every export that is lent one struct to read, and then any parameters of `Rest`: the struct is looked into, copied out and handed to g
+-- by value, with all else, and the borrow is shut. It goes as that of `Storing`, and an export cites `meets` in the same way.
 -- Assumes nothing.
 use denote.Struct.Laws as laws
 use Rattle.lent.proofs.Borrows.{made}
 use Rattle.lent.proofs.Structs.{Lent, Whole, rowOf, mirOf, valsOf}
-use Rattle.lent.proofs.Locals.{Spots, envIn, At, Sits, Goes-on, past, here, next, sits, alloc-all, free-all, gone, from-at}
+use Rattle.lent.proofs.Locals.{Spots, envIn, At, Sits, Goes-on, past, here, next, sits, alloc-all, free-all, gone, from-at, inside}
 use Rattle.lent.proofs.Rest.{More, count, Named, then, Has, rows, Passed, spells, tellss, vals, Views, ins, ends, Lasting, lefts, to, back, same-said}
 use Rattle.lent.proofs.Rest.{given, fits, go-on, owns-to, lasting, had, lasts-back}
 use Rattle.lent.proofs.Params.{shown}
@@ -16,9 +15,9 @@ use Rattle.lent.proofs.Kit.{refl, ap, ℕ, _<_, _^_, suc, [], _∷_, Li
 use Rattle.lent.proofs.Kit.{assign, call, return, local, valueLocal, Val, vint, SProp, ent, sep, fat, flft, fres, fshr-bor, Heap, Calls, Loops, WpFn}
 use Rattle.lent.proofs.Kit.{Tables, Atoms, sem, Lfts, Shares, Given, Item, ‵, raw, _⊛_, ⋆, _$_, _∵_, !, qed, by, move, drop, use1, use2, split, join}
 use Rattle.lent.proofs.Kit.{rewrite, fsplit, fsplit3, fjoin, fjoin3, feqI, suffices, frame, done, look, look-raw, init, stop, hop, from, load, of-opd}
-use Rattle.lent.proofs.Kit.{and-then, assigns, land, returns, enter, alloc1, alloc0, params1, free0, look-in, FmC, fmOf, owns, flat, Is, Are, Ises}
-use Rattle.lent.proofs.Kit.{shows, partAt, uint-makes, uint-lawful, u8, ptr-vals, plain, only, looks, shuts, owned, facts, spelt, Args, Vals, alive}
-use Rattle.lent.proofs.Kit.{onEntry, Contract, Triple, calls-at, Ended, says, Stays, stay-none-ref, walkOf, goes-none-ref, ends-at, yes}
+use Rattle.lent.proofs.Kit.{and-then, assigns, land, returns, enter, alloc1, alloc0, params1, free0, FmC, fmOf, owns, flat, Is, Are, Ises, shows}
+use Rattle.lent.proofs.Kit.{partAt, uint-makes, uint-lawful, u8, ptr-vals, plain, only, looks, shuts, owned, facts, spelt, Args, Vals, alive, onEntry}
+use Rattle.lent.proofs.Kit.{Contract, Triple, calls-at, Ended, says, Stays, stay-none-ref, walkOf, goes-none-ref, ends-at, yes}
 
 module _ (ms : List More) (S : Lent) where
   abbrev pub Says : Type 1
@@ -81,17 +80,20 @@ module _ (ms : List More) (S : Lent) where
     abbrev x : Passed F
     x = a .1
 
+    abbrev y : Passed G
+    y = to F G x
+
+    abbrev was : S .type .D
+    was = a .0 .now
+
     abbrev at : Vals (lent .signature) κs
     at = vals (alone all-of, κs) a
 
     abbrev Post : Val → SProp 𝓤
     Post = walkOf 𝓤 H A lent stayed (telling lent 𝓤 (lends P)) .post ((κs, qs, tt, a, at), tt)
 
-    abbrev was : S .type .D
-    was = a .0 .now
-
     abbrev to-callee : Asks 𝓤 H A P .Ghost
-    to-callee = ((κs .1, qs .1, tt, (was, to F G x), (valsOf S was, vals G (to F G x))), tt)
+    to-callee = ((κs .1, qs .1, tt, (was, y), (valsOf S was, vals G y)), tt)
 
     abbrev Tokens : SProp 𝓤
     Tokens = alive 𝓤 H A (asked .signature) (κs .1) (qs .1)
@@ -99,16 +101,16 @@ module _ (ms : List More) (S : Lent) where
     goes-in : Whole S was → ent 𝓤 (sep 𝓤 Tokens (sem 𝓤 H A (owns (rows F) x (vals F x)))) (Asks 𝓤 H A P .pre to-callee)
     goes-in k =
         qed W (raw Tokens ∷ ‵ (owns (rows F) x (vals F x)) ∷ []) ∵ move ! (1 ∷ []) $
-        use1 W (‵ (owns (rows G) (to F G x) (vals G (to F G x)))) (owns-to 𝓤 H A F G refl x) $
+        use1 W (‵ (owns (rows G) y (vals G y))) (owns-to 𝓤 H A F G refl x) $
         made ! S was k $ fjoin ! $ move ! (1 ∷ 0 ∷ []) $ join ! $ frame ! $ done !
 
     -- what is had at the end
-    abbrev Had : Lasting G (to F G x) → List (Item 𝓤)
+    abbrev Had : Lasting G y → List (Item 𝓤)
     Had z =
-        ‵ (flft (κs .0) (qs .0)) ∷ ‵ (lasting G (to F G x) z) ∷ raw Tokens ∷ ‵ (fshr-bor (κs .0) (λ q. partAt (rowOf S) q was (a .0 .ptr .0) (a .0 .ptr .1)))
+        ‵ (flft (κs .0) (qs .0)) ∷ ‵ (lasting G y z) ∷ raw Tokens ∷ ‵ (fshr-bor (κs .0) (λ q. partAt (rowOf S) q was (a .0 .ptr .0) (a .0 .ptr .1)))
         ∷ ‵ (fres (a .0 .name) (rowOf S .coded .code was)) ∷ []
 
-    exits : (r : ℕ) (z : Lasting G (to F G x)) → P was (ins G (to F G x)) r (ends G (lefts G (to F G x) z)) → r < 2 ^ 8
+    exits : (r : ℕ) (z : Lasting G y) → P was (ins G y) r (ends G (lefts G y z)) → r < 2 ^ 8
         → ent 𝓤 (⋆ 𝓤 H A (Had z)) (Post (vint w8 r))
     exits r z e small =
         qed W (Had z) ∵
@@ -116,10 +118,8 @@ module _ (ms : List More) (S : Lent) where
         (tt, fits F x (back F G x z))) $
         says ! (same-said F G (λ v w. P was v r w) x z e) $ move ! (0 ∷ 2 ∷ []) $ join ! $ frame ! $
         use1 W (‵ (had F x (back F G x z))) (lasts-back 𝓤 H A F G x z) $ move ! (2 ∷ 1 ∷ []) $
-        feqI ! (List Val) (ptr-vals (a .0)) (ptr-vals (a .0)) refl $ fjoin3 ! $ fjoin ! $ frame ! $ owned ! u8 (Is u8) (uint-makes 𝓤 H A W w8) r _ (
-          refl,
-          small,
-        ) $ done !
+        feqI ! (List Val) (ptr-vals (a .0)) (ptr-vals (a .0)) refl $ fjoin3 ! $ fjoin ! $ frame ! $
+        owned ! u8 (Is u8) (uint-makes 𝓤 H A W w8) r _ (refl, small) $ done !
 
     walk : (g : Name) (C : Calls 𝓤 H) (Λ : Loops 𝓤 H) → FmC 𝓤 H (W .laws) C → Triple 𝓤 (C g) (Asks 𝓤 H A P) → Are (types lent κs) (Ises (types lent κs)) a at
         → ent 𝓤 (onEntry 𝓤 H A (lent .signature) κs qs a at) (WpFn 𝓤 H C Λ (code g) (flat (types lent κs) at) Post)
@@ -130,13 +130,12 @@ module _ (ms : List More) (S : Lent) where
         move ! (9 ∷ []) $ fsplit ! $ fsplit3 ! $ drop ! $ move ! (11 ∷ []) $ split ! $
         -- [the token; the tokens of the rest; the struct's value and borrow; what the rest owns; the locals]
         move ! (3 ∷ 0 ∷ []) $
-        looks ! tt (rowOf S) (Is (rowOf S)) (shows 𝓤 H A (rowOf S)) (valsOf S) (laws.tells (S .type) (S .the-laws)) (laws.copy (S .type) (S .the-copy) 𝓤 H
-        A W) was
-        (a .0 .ptr .0) (a .0 .ptr .1) (λ q v.
+        looks ! tt (rowOf S) (Is (rowOf S)) (shows 𝓤 H A (rowOf S)) (valsOf S) (laws.tells (S .type) (S .the-laws))
+        (laws.copy (S .type) (S .the-copy) 𝓤 H A W) was (a .0 .ptr .0) (a .0 .ptr .1) (λ q v.
         spelt ! (rowOf S) (Is (rowOf S)) (shows 𝓤 H A (rowOf S)) (valsOf S) (laws.tells (S .type) (S .the-laws)) q was v (a .0 .ptr .0) (a .0 .ptr .1) $
         move ! (1 ∷ []) $ facts ! (rowOf S) (Is (rowOf S)) (shows 𝓤 H A (rowOf S)) was (valsOf S was) (λ k. knowing ! (found l0 bs l2 ts) (λ at-l.
-        -- [its cell, open borrow, borrow; the tokens of the rest; its value; what the rest owns; its locals, what is lent anew, the copy, the pointer, the
-        -- answer]
+        -- [its cell, open borrow, borrow; the tokens of the rest; its value; what the rest owns; its locals, what is lent anew, the copy, the
+        -- pointer, the answer]
         assigns ! (of-opd ! (load ! (from ! (hop ! (look ! 6 refl) (stop !))) (look-raw ! 0 refl))) (from-at ! (at-l .0) (stop !))
         (init ! 10 refl (laws.lawful (S .type) (S .the-laws) 𝓤 H A W .typed was _ k .0)) $
         move ! (8 ∷ 9 ∷ []) $ lent-anew ! F 2 (suc copied) (bs .1) ts x (are .1) (at-l .1) (at-l .2) $
@@ -144,7 +143,7 @@ module _ (ms : List More) (S : Lent) where
         -- [what g asks for; the rest's locals, what is lent anew; the struct's cell, open borrow, borrow, value; the other locals]
         calls-at ! fm (Asks 𝓤 H A P) known to-callee
         (and-then ! (load ! (from-at ! (at-l .0) (stop !)) (look ! 9 refl))
-        (hands-on ! F G 2 (suc copied) (bs .1) ts x (at-l .1) (at-l .2) (record { read = λ p. look-in ! 1 p }) (record { read = λ p. look-in ! 2 p })))
+        (hands-on ! F G 2 (suc copied) (bs .1) ts x (at-l .1) (at-l .2) (inside ! 1) (inside ! 2)))
         (λ w. answered asked ! tt (asks P) (to-callee .0) w (λ r zs e. fsplit ! $ drop ! $ move ! (1 ∷ []) $
         facts ! u8 (Is u8) (shows 𝓤 H A u8) r (w ∷ []) (λ is.
         land ! (from ! (stop !)) (init ! 12 refl (uint-lawful 𝓤 H A W w8 .typed r _ is .0)) $

@@ -55,8 +55,8 @@ anew-slice X τ = record {
   lent = λ k ℓ p t b ts x typed e sits. step (λ s.
       move k (1 ∷ []) $ split k $ split k $ move k (2 ∷ []) $ split k $ split k $
       -- [the second local's room and death; nothing; the first one's; the parameter's cell]
-      assigns k (addr k (from-at k e (fld k refl (hop k (look-in k 5 (sub k 0 refl (whole k))) (stop k))))) (from-at k (sits .0) (stop k)) (init k 3 refl
-      (tt, tt)) $
+      assigns k (addr k (from-at k e (fld k refl (hop k (look-in k 5 (sub k 0 refl (whole k))) (stop k)))))
+      (from-at k (sits .0) (stop k)) (init k 3 refl (tt, tt)) $
       assigns k (agg k (and-then k (load k (from-at k (sits .0) (stop k)) (look k 3 refl))
       (and-then k (load k (from-at k e (fld k refl (stop k))) (look-in k 5 (sub k 1 refl (whole k)))) (no-more k)))) (from-at k (sits .1 .0) (stop k))
       (init k 0 refl (tt, typed .1)) $

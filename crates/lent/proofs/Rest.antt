@@ -1,6 +1,6 @@
--- The parameters of an export after the structs: what a walk has to know of one, and of a list of them. The export names the lifetimes of the list from
--- some number on, and
--- its callee names them from 0 on. Nothing else differs in the two signatures, so values, what they own and what is said of them pass from one to the other.
+-- The parameters of an export after the structs: what a walk has to know of one, and of a list of them. The export names the lifetimes of the list
+-- from some number on, and its callee names them from 0 on. Nothing else differs in the two signatures, so values, what they own and what is said of
+-- them pass from one to the other.
 -- Assumes nothing.
 use mathlib.Core.Path.{_≡_, refl, ap, subst}
 use Prim.Native.Nat.{ℕ, zero, suc}
@@ -34,10 +34,9 @@ pub record Anew (D : Type 0) (τ : Lifetime → Ty) (val : D → Val) : Type 3 w
   pub filled : D → Fill temps
   pub code : ℕ → ℕ → Body → Body
   pub hands : ℕ → ℕ → ℕ
-  pub lent : {M : Type 1} {𝓤 : URA M} {H : Heap 𝓤} {A : Atoms 𝓤} {K : Type 0} {W : Given 𝓤 H A} {Γ : List (Item 𝓤)} {E : Env 𝓤 H} {C : Calls 𝓤 H} {Λ :
-      Loops 𝓤 H}
-      {q : Post 𝓤 H} {rest : Body} → K → (ℓ : Lifetime) (p t b : ℕ) (ts : Spots temps) (x : D) → T (hasTy (τ ℓ) (val x)) × WT (val x) → At E p (τ ℓ) b
-      → Sits E t temps ts
+  pub lent : {M : Type 1} {𝓤 : URA M} {H : Heap 𝓤} {A : Atoms 𝓤} {K : Type 0} {W : Given 𝓤 H A} {Γ : List (Item 𝓤)} {E : Env 𝓤 H}
+      {C : Calls 𝓤 H} {Λ : Loops 𝓤 H} {q : Post 𝓤 H} {rest : Body} → K → (ℓ : Lifetime) (p t b : ℕ) (ts : Spots temps) (x : D)
+      → T (hasTy (τ ℓ) (val x)) × WT (val x) → At E p (τ ℓ) b → Sits E t temps ts
       → Step K W (‵ (fat fullShare (τ ℓ) b 0 (val x)) ∷ held 𝓤 temps ts (filled x) ∷ Γ) (runs C Λ E rest q)
       (‵ (fat fullShare (τ ℓ) b 0 (val x)) ∷ rooms 𝓤 temps ts ∷ Γ) (runs C Λ E (code p t rest) q)
   pub handed : {M : Type 1} {𝓤 : URA M} {H : Heap 𝓤} {A : Atoms 𝓤} {K : Type 0} {W : Given 𝓤 H A} {Γ : List (Item 𝓤)} {E : Env 𝓤 H} → K
@@ -179,8 +178,8 @@ same-ends {ms = m ∷ ms} F G a z =
 pub same-said : {ms : List More} (F G : Has ms) (P : Views ms → Views ms → Type 0) (a : Passed F) (z : Lasting G (to F G a))
     → P (ins G (to F G a)) (ends G (lefts G (to F G a) z)) → P (ins F a) (ends F (lefts F a (back F G a z)))
 same-said {ms} F G P a z h =
-    subst (λ (v : Views ms). P v (ends F (lefts F a (back F G a z)))) (same-ins F G a) (subst (λ (v : Views ms). P (ins G (to F G a)) v) (same-ends F G a
-    z) h)
+    subst (λ (v : Views ms). P v (ends F (lefts F a (back F G a z)))) (same-ins F G a)
+    (subst (λ (v : Views ms). P (ins G (to F G a)) v) (same-ends F G a z) h)
 
 -- ---- they are given up for good: what is had of them at the end is what the callee says of their last values
 abbrev gaves : {n : ℕ} (ss : List (Slot n)) → Stays ss (all yes ss)

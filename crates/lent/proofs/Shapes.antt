@@ -72,25 +72,23 @@ module _ (T : Ended) where
     -- g has answered w: what is said of the last values, what its answer owns, and the tokens
     pub answered : K → Soaks G → (φ : Telling) (x : Bound 𝓤 H A (T .signature)) (w : Val)
         → ((r : Res (T .signature) (x .0)) (zs : Lasts T (x .0) (x .3)) → φ (x .0) (x .3) r (atExit T (x .0) (x .3) zs)
-        → Seq K W (‵ (lasts T (x .0) (x .3) zs) ∷ ‵ (typeAt (T .signature .result) (x .0) .own r (w ∷ [])) ∷ raw (alive 𝓤 H A (T .signature) (x .0) (x .1))
-        ∷ Γ) G)
+        → Seq K W (‵ (lasts T (x .0) (x .3) zs) ∷ ‵ (typeAt (T .signature .result) (x .0) .own r (w ∷ []))
+        ∷ raw (alive 𝓤 H A (T .signature) (x .0) (x .1)) ∷ Γ) G)
         → Seq K W (raw (contract 𝓤 H A φ .post (x, tt) w) ∷ Γ) G
     answered t z φ x w then =
         use1 W (later (some (λ (r : Res (T .signature) (x .0)).
         (raw (alive 𝓤 H A (T .signature) (x .0) (x .1)) ⊛ ‵ (typeAt (T .signature .result) (x .0) .own r (w ∷ [])))
         ⊛ raw (ensured 𝓤 H A T (telling 𝓤 φ) (x .0) (x .3) tt r)))) (id⊢ 𝓤 _) $
         await t z $ pick t (λ r. split t $ split t $ move t (2 ∷ []) $
-        use1 W (some (λ (zs : Lasts T (x .0) (x .3)). ‵ (lasts T (x .0) (x .3) zs) ⊛ raw (fact 𝓤 (φ (x .0) (x .3) r (atExit T (x .0) (x .3) zs))))) (id⊢ 𝓤
-        _) $
-        pick t (λ zs. split t $ move t (1 ∷ []) $ heard t _ (λ e. move t (0 ∷ 2 ∷ []) $ then r zs e)))
+        use1 W (some (λ (zs : Lasts T (x .0) (x .3)). ‵ (lasts T (x .0) (x .3) zs) ⊛ raw (fact 𝓤 (φ (x .0) (x .3) r (atExit T (x .0) (x .3) zs)))))
+        (id⊢ 𝓤 _) $ pick t (λ zs. split t $ move t (1 ∷ []) $ heard t _ (λ e. move t (0 ∷ 2 ∷ []) $ then r zs e)))
 
   -- a walk of f, with the parameters' machine values written out, is a proof that f meets its contract
   pub by-walk : {M : Type 1} (𝓤 : URA M) (H : Heap 𝓤) (A : Atoms 𝓤) (W : Given 𝓤 H A) (φ : Telling) (𝓣 : Tables 𝓤 H) (f : Fn)
       (hs : Stays (T .signature .params) (T .kept)) → AllGo 𝓤 H A W (T .signature .lifetimes) (T .signature .params) (T .kept) hs
       → (sp : (κs : Lives) → Spells (types κs)) → ((κs : Lives) → Tellss (types κs) (Ises (types κs)) (sp κs))
-      → ((κs : Lives) (qs : Shares (T .signature .lifetimes)) (bounds : AllOutlive (T .signature .lifetimes) (T .signature .outlives) κs) (a : Args (T
-      .signature) κs)
-      → Are (types κs) (Ises (types κs)) a (valss (types κs) (sp κs) a)
+      → ((κs : Lives) (qs : Shares (T .signature .lifetimes)) (bounds : AllOutlive (T .signature .lifetimes) (T .signature .outlives) κs)
+      (a : Args (T .signature) κs) → Are (types κs) (Ises (types κs)) a (valss (types κs) (sp κs) a)
       → ent 𝓤 (onEntry 𝓤 H A (T .signature) κs qs a (valss (types κs) (sp κs) a)) (WpFn 𝓤 H (𝓣 .C) (𝓣 .Λ) f (flat (types κs) (valss (types κs) (sp κs) a))
       (walkOf 𝓤 H A T hs (telling 𝓤 φ) .post ((κs, qs, bounds, a, valss (types κs) (sp κs) a), tt))))
       → Met 𝓤 H A φ 𝓣 f

@@ -1,14 +1,12 @@
--- The walk of every export that is lent two structs to change, and then any parameters of `Rest`: each struct is copied out and handed to g by value, with
--- all
--- else, what comes back is stored, and the borrows are closed. All that is known of g is that it meets its contract. What the rest of the parameters own,
--- their
--- tokens, what g says of their last values, and their locals are each one entry of the context all along. An export cites `meets` at its list of parameters;
--- that its code, signature and clauses are these is compared there.
+-- The walk of every export that is lent two structs to change, and then any parameters of `Rest`: each struct is copied out and handed to g by value,
+-- with all else, what comes back is stored, and the borrows are closed. All that is known of g is that it meets its contract. What the rest of the
+-- parameters own, their tokens, what g says of their last values, and their locals are each one entry of the context all along. An export cites
+-- `meets` at its list of parameters; that its code, signature and clauses are these is compared there.
 -- Assumes nothing.
 use denote.Struct.Laws as laws
 use Rattle.lent.proofs.Borrows.{behind, opened, shut, again, made}
 use Rattle.lent.proofs.Structs.{fit, Lent, Outcome, Whole, rowOf, mirOf, valsOf, typeOf, outRow, outMir, outcomeLaws, off-0}
-use Rattle.lent.proofs.Locals.{Spots, envIn, At, Sits, Goes-on, past, here, next, sits, alloc-all, free-all, gone, from-at}
+use Rattle.lent.proofs.Locals.{Spots, envIn, At, Sits, Goes-on, past, here, next, sits, alloc-all, free-all, gone, from-at, inside}
 use Rattle.lent.proofs.Rest.{More, count, Named, then, Has, rows, Passed, spells, tellss, vals, Views, ins, ends, Lasting, lefts, to, back, same-said}
 use Rattle.lent.proofs.Rest.{given, fits, go-on, owns-to, lasting, had, lasts-back}
 use Rattle.lent.proofs.Params.{fills}
@@ -87,9 +85,8 @@ module _ (ms : List More) (S R : Lent) (O : Outcome (S ∷ R ∷ [])) where
     -- where they are
     abbrev Found : Type 0
     Found =
-        At env out (outMir O) l3 × At env (suc out) (mirOf S) l4 × At env (suc (suc out)) (mirOf R) l5 × Sits env 3 (params ms 2) (bs .1 .1) × Stand env
-        temps ms ts
-        × At env (past-temps ms temps) tyBool l6
+        At env out (outMir O) l3 × At env (suc out) (mirOf S) l4 × At env (suc (suc out)) (mirOf R) l5 × Sits env 3 (params ms 2) (bs .1 .1)
+        × Stand env temps ms ts × At env (past-temps ms temps) tyBool l6
 
     found : Found
     found =
@@ -114,6 +111,9 @@ module _ (ms : List More) (S R : Lent) (O : Outcome (S ∷ R ∷ [])) where
     abbrev x : Passed F
     x = a .1 .1
 
+    abbrev y : Passed G
+    y = to F G x
+
     abbrev at : Vals (lent .signature) κs
     at = vals (alone all-of, κs) a
 
@@ -128,10 +128,10 @@ module _ (ms : List More) (S R : Lent) (O : Outcome (S ∷ R ∷ [])) where
     was-R = a .1 .0 .now
 
     abbrev passed : Args (asked .signature) (κs .1 .1)
-    passed = (was-S, (was-R, to F G x))
+    passed = (was-S, (was-R, y))
 
     abbrev to-callee : Asks 𝓤 H A P .Ghost
-    to-callee = ((κs .1 .1, qs .1 .1, tt, passed, (valsOf S was-S, (valsOf R was-R, vals G (to F G x)))), tt)
+    to-callee = ((κs .1 .1, qs .1 .1, tt, passed, (valsOf S was-S, (valsOf R was-R, vals G y))), tt)
 
     abbrev Tokens : SProp 𝓤
     Tokens = alive 𝓤 H A (asked .signature) (κs .1 .1) (qs .1 .1)
@@ -139,29 +139,26 @@ module _ (ms : List More) (S R : Lent) (O : Outcome (S ∷ R ∷ [])) where
     goes-in : Whole S was-S → Whole R was-R → ent 𝓤 (sep 𝓤 Tokens (sem 𝓤 H A (owns (rows F) x (vals F x)))) (Asks 𝓤 H A P .pre to-callee)
     goes-in k-S k-R =
         qed W (raw Tokens ∷ ‵ (owns (rows F) x (vals F x)) ∷ []) ∵ move ! (1 ∷ []) $
-        use1 W (‵ (owns (rows G) (to F G x) (vals G (to F G x)))) (owns-to 𝓤 H A F G refl x) $
-        made ! R was-R k-R $ fjoin ! $
-        made ! S was-S k-S $ fjoin ! $ move ! (1 ∷ 0 ∷ []) $ join ! $ frame ! $ done !
+        use1 W (‵ (owns (rows G) y (vals G y))) (owns-to 𝓤 H A F G refl x) $
+        made ! R was-R k-R $ fjoin ! $ made ! S was-S k-S $ fjoin ! $ move ! (1 ∷ 0 ∷ []) $ join ! $ frame ! $ done !
 
     -- what is had at the end, with s and t behind the pointers and the rest as g left it
-    module _ (s : S .type .D) (t : R .type .D) (z : Lasting G (to F G x)) where
+    module _ (s : S .type .D) (t : R .type .D) (z : Lasting G y) where
       abbrev Had : List (Item 𝓤)
-      Had = behind S (a .0) (κs .0) (qs .0) s (behind R (a .1 .0) (κs .1 .0) (qs .1 .0) t (‵ (lasting G (to F G x) z) ∷ raw Tokens ∷ []))
+      Had = behind S (a .0) (κs .0) (qs .0) s (behind R (a .1 .0) (κs .1 .0) (qs .1 .0) t (‵ (lasting G y z) ∷ raw Tokens ∷ []))
 
-      exits : (r : O .D) → r ≡ O .make (O .values r .0, (s, (t, tt))) → P was-S was-R (ins G (to F G x)) r (ends G (lefts G (to F G x) z))
-          → O .values r .0 < 2 ^ 8
+      exits : (r : O .D) → r ≡ O .make (O .values r .0, (s, (t, tt))) → P was-S was-R (ins G y) r (ends G (lefts G y z)) → O .values r .0 < 2 ^ 8
           → ent 𝓤 (⋆ 𝓤 H A Had) (Post (vint w8 (O .values r .0)))
       exits r same e small =
           qed W Had ∵
           suffices ! _ (ends-at 𝓤 H A lent stayed (telling lent 𝓤 (lends P)) W ((κs, qs, tt, a, at), tt) (vint w8 (O .values r .0)) (O .values r .0)
           (s, (t, back F G x z)) (tt, (tt, fits F x (back F G x z)))) $
           says ! (same-said F G (λ v w. P was-S was-R v (O .make (O .values r .0, (s, (t, tt)))) w) x z
-          (subst (λ (y : O .D). P was-S was-R (ins G (to F G x)) y (ends G (lefts G (to F G x) z))) same e)) $
+          (subst (λ (u : O .D). P was-S was-R (ins G y) u (ends G (lefts G y z))) same e)) $
           move ! (5 ∷ 7 ∷ []) $ join ! $ move ! (3 ∷ 0 ∷ []) $ join ! $ frame ! $
           -- [S's obs and borrow; R's; the last values of the rest]
           move ! (4 ∷ []) $ use1 W (‵ (had F x (back F G x z))) (lasts-back 𝓤 H A F G x z) $
-          move ! (3 ∷ 4 ∷ []) $ again R (a .1 .0) ! $ fjoin ! $
-          move ! (1 ∷ 2 ∷ []) $ again S (a .0) ! $ fjoin ! $ frame ! $
+          move ! (3 ∷ 4 ∷ []) $ again R (a .1 .0) ! $ fjoin ! $ move ! (1 ∷ 2 ∷ []) $ again S (a .0) ! $ fjoin ! $ frame ! $
           owned ! u8 (Is u8) (uint-makes 𝓤 H A W w8) (O .values r .0) _ (refl, small) $ done !
 
     walk : (g : Name) (C : Calls 𝓤 H) (Λ : Loops 𝓤 H) → FmC 𝓤 H (W .laws) C → Triple 𝓤 (C g) (Asks 𝓤 H A P) → Are (types lent κs) (Ises (types lent κs)) a at
@@ -177,9 +174,8 @@ module _ (ms : List More) (S R : Lent) (O : Outcome (S ∷ R ∷ [])) where
         move ! (6 ∷ 7 ∷ 0 ∷ []) $ opened S (a .0) was-S ! tt (λ k-S.
         move ! (6 ∷ 7 ∷ 4 ∷ []) $ opened R (a .1 .0) was-R ! tt (λ k-R.
         knowing ! (found l0 bs l3 l4 l5 ts l6) (λ at-l.
-        -- [R's cell, open borrow, obs, auth; S's; the tokens of the rest; what they own; the rest's locals, the test, what is lent anew, the copies, what
-        -- comes
-        -- back, the pointers, the answer]
+        -- [R's cell, open borrow, obs, auth; S's; the tokens of the rest; what they own; the rest's locals, the test, what is lent anew, the copies,
+        -- what comes back, the pointers, the answer]
         assigns ! (of-opd ! (load ! (from ! (hop ! (look ! 13 refl) (stop !))) (look-raw ! 4 refl))) (from-at ! (at-l .1) (stop !))
         (init ! 20 refl (laws.lawful (S .type) (S .the-laws) 𝓤 H A W .typed was-S _ k-S .0)) $
         assigns ! (of-opd ! (load ! (from ! (hop ! (look ! 10 refl) (stop !))) (look-raw ! 0 refl))) (from-at ! (at-l .2) (stop !))
@@ -189,46 +185,42 @@ module _ (ms : List More) (S R : Lent) (O : Outcome (S ∷ R ∷ [])) where
         -- [what g asks for; the rest's locals, what is lent anew; R's four; S's; the other locals]
         calls-at ! fm (Asks 𝓤 H A P) known to-callee
         (and-then ! (load ! (from-at ! (at-l .1) (stop !)) (look ! 19 refl)) (and-then ! (load ! (from-at ! (at-l .2) (stop !)) (look ! 17 refl))
-        (hands-on ! F G 3 temps (bs .1 .1) ts x (at-l .3) (at-l .4) (record { read = λ p. look-in ! 1 p }) (record { read = λ p. look-in ! 2 p }))))
+        (hands-on ! F G 3 temps (bs .1 .1) ts x (at-l .3) (at-l .4) (inside ! 1) (inside ! 2))))
         (λ w. answered asked ! tt (asks P) (to-callee .0) w (λ r zs e. fsplit ! $ drop ! $ fsplit ! $ drop ! $ move ! (1 ∷ []) $
-        facts ! (outRow O) (Is (outRow O)) (shows 𝓤 H A (outRow O)) r (w ∷ []) (λ is.
+        facts ! (outRow O) (Is (outRow O)) (shows 𝓤 H A (outRow O)) r (w ∷ []) (λ is. knowing ! (laws.owed (typeOf O) (outcomeLaws O) r _ is) (λ own.
         -- [the last values of the rest; their tokens, locals, what is lent anew; R's four; S's; the other locals]
         land ! (from-at ! (at-l .0) (stop !)) (init ! 22 refl (laws.lawful (typeOf O) (outcomeLaws O) 𝓤 H A W .typed r _ is .0)) $
         rewrite ! 22 (λ (u : Val). ‵ (fat fullShare (outMir O) l3 0 u)) (ap only (laws.tells (typeOf O) (outcomeLaws O) r _ is)) refl $
-        assigns ! (bin ! (load ! (from-at ! (at-l .0) (fld ! refl (stop !))) (look-in ! 22 (sub ! 0 refl (whole !)))) (lit ! tt) tt) (from-at ! (at-l .5)
-        (stop !))
-        (init ! 16 refl (tt, tt)) $ first ! $ branches ! (load ! (from-at ! (at-l .5) (stop !)) (look ! 16 refl))
+        assigns ! (bin ! (load ! (from-at ! (at-l .0) (fld ! refl (stop !))) (look-in ! 22 (sub ! 0 refl (whole !)))) (lit ! tt) tt)
+        (from-at ! (at-l .5) (stop !)) (init ! 16 refl (tt, tt)) $ first ! $ branches ! (load ! (from-at ! (at-l .5) (stop !)) (look ! 16 refl))
         -- the answer is 0: both are stored
         (λ on.
-        assigns ! (of-opd ! (load ! (from-at ! (at-l .0) (fld ! refl (stop !))) (look-in ! 22 (sub ! 1 refl (whole !))))) (from ! (hop ! (look ! 14 refl)
-        (stop !)))
-        (store-raw ! 8 refl (laws.lawful (S .type) (S .the-laws) 𝓤 H A W .typed _ _ (laws.owed (typeOf O) (outcomeLaws O) r _ is .1 .0) .0)) $
-        assigns-last ! (of-opd ! (load ! (from-at ! (at-l .0) (fld ! refl (stop !))) (look-in ! 22 (sub ! 2 refl (whole !))))) (from ! (hop ! (look ! 12
-        refl) (stop !)))
-        (store-raw ! 4 refl (laws.lawful (R .type) (R .the-laws) 𝓤 H A W .typed _ _ (laws.owed (typeOf O) (outcomeLaws O) r _ is .1 .1 .0) .0)) $
+        assigns ! (of-opd ! (load ! (from-at ! (at-l .0) (fld ! refl (stop !))) (look-in ! 22 (sub ! 1 refl (whole !)))))
+        (from ! (hop ! (look ! 14 refl) (stop !))) (store-raw ! 8 refl (laws.lawful (S .type) (S .the-laws) 𝓤 H A W .typed _ _ (own .1 .0) .0)) $
+        assigns-last ! (of-opd ! (load ! (from-at ! (at-l .0) (fld ! refl (stop !))) (look-in ! 22 (sub ! 2 refl (whole !)))))
+        (from ! (hop ! (look ! 12 refl) (stop !))) (store-raw ! 4 refl (laws.lawful (R .type) (R .the-laws) 𝓤 H A W .typed _ _ (own .1 .1 .0) .0)) $
         exec ! C Λ (env l0 bs l3 l4 l5 ts l6) (answers out) (atRet (env l0 bs l3 l4 l5 ts l6) Post) $
         assigns ! (of-opd ! (load ! (from-at ! (at-l .0) (fld ! refl (stop !))) (look-in ! 22 (sub ! 0 refl (whole !))))) (from ! (stop !))
-        (init ! 24 refl (tt, fit (laws.owed (typeOf O) (outcomeLaws O) r _ is .0 .1))) $
-        move ! (4 ∷ 5 ∷ 6 ∷ 7 ∷ []) $ shut R (a .1 .0) (O .values r .1 .1 .0) ! tt (laws.owed (typeOf O) (outcomeLaws O) r _ is .1 .1 .0) $
-        move ! (7 ∷ 8 ∷ 9 ∷ 10 ∷ []) $ shut S (a .0) (O .values r .1 .0) ! tt (laws.owed (typeOf O) (outcomeLaws O) r _ is .1 .0) $
+        (init ! 24 refl (tt, fit (own .0 .1))) $
+        move ! (4 ∷ 5 ∷ 6 ∷ 7 ∷ []) $ shut R (a .1 .0) (O .values r .1 .1 .0) ! tt (own .1 .1 .0) $
+        move ! (7 ∷ 8 ∷ 9 ∷ 10 ∷ []) $ shut S (a .0) (O .values r .1 .0) ! tt (own .1 .0) $
         -- [what is had of S; of R; the last values of the rest; their tokens, locals, what is lent anew; the other locals]
         returns ! (look ! 22 refl) $ move ! (22 ∷ 23 ∷ 12 ∷ 13 ∷ 10 ∷ 11 ∷ 8 ∷ 20 ∷ 21 ∷ 18 ∷ 19 ∷ 16 ∷ 17 ∷ 9 ∷ 14 ∷ 15 ∷ []) $ gone ! $ gone ! $ gone ! $
         free-all ! (params ms 2) (bs .1 .1) (cells F x) $ gone ! $ gone ! $ gone ! $ free-temps ! F ts x $ gone ! $ free0 ! $
-        by ! (exits (O .values r .1 .0) (O .values r .1 .1 .0) (zs .1 .1) r (sym (O .eta r)) e (laws.owed (typeOf O) (outcomeLaws O) r _ is .0 .1)))
+        by ! (exits (O .values r .1 .0) (O .values r .1 .1 .0) (zs .1 .1) r (sym (O .eta r)) e (own .0 .1)))
         -- it isn't: they stay as they were
         (λ off. skips ! $ exec ! C Λ (env l0 bs l3 l4 l5 ts l6) (answers out) (atRet (env l0 bs l3 l4 l5 ts l6) Post) $
         assigns ! (of-opd ! (load ! (from-at ! (at-l .0) (fld ! refl (stop !))) (look-in ! 22 (sub ! 0 refl (whole !))))) (from ! (stop !))
-        (init ! 24 refl (tt, fit (laws.owed (typeOf O) (outcomeLaws O) r _ is .0 .1))) $
+        (init ! 24 refl (tt, fit (own .0 .1))) $
         move ! (4 ∷ 5 ∷ 6 ∷ 7 ∷ []) $ shut R (a .1 .0) was-R ! tt k-R $
         move ! (7 ∷ 8 ∷ 9 ∷ 10 ∷ []) $ shut S (a .0) was-S ! tt k-S $
         -- [what is had of S; of R; the last values of the rest; their tokens, locals, what is lent anew; the other locals]
         returns ! (look ! 22 refl) $ move ! (22 ∷ 23 ∷ 12 ∷ 13 ∷ 10 ∷ 11 ∷ 8 ∷ 20 ∷ 21 ∷ 18 ∷ 19 ∷ 16 ∷ 17 ∷ 9 ∷ 14 ∷ 15 ∷ []) $ gone ! $ gone ! $ gone ! $
         free-all ! (params ms 2) (bs .1 .1) (cells F x) $ gone ! $ gone ! $ gone ! $ free-temps ! F ts x $ gone ! $ free0 ! $
-        by ! (exits was-S was-R (zs .1 .1) r (keeps was-S was-R _ r _ e (off-0 off)) e (laws.owed (typeOf O) (outcomeLaws O) r _ is .0 .1))))))))))))))))
+        by ! (exits was-S was-R (zs .1 .1) r (keeps was-S was-R _ r _ e (off-0 off)) e (own .0 .1)))))))))))))))))
 
   pub meets : {M : Type 1} (𝓤 : URA M) (H : Heap 𝓤) (A : Atoms 𝓤) (W : Given 𝓤 H A) (P : Says) → Keeps P → (g : Name) (𝓣 : Tables 𝓤 H)
-      → Triple 𝓤 (𝓣 .C g) (Asks 𝓤 H A P)
-      → Met lent 𝓤 H A (lends P) 𝓣 (code g)
+      → Triple 𝓤 (𝓣 .C g) (Asks 𝓤 H A P) → Met lent 𝓤 H A (lends P) 𝓣 (code g)
   meets 𝓤 H A W P keeps g 𝓣 known =
       by-walk lent 𝓤 H A W (lends P) 𝓣 (code g) stayed
       (goes-ref 𝓤 H A W (more .n) 0 tt (plain (λ _. rowOf S)), (goes-ref 𝓤 H A W (more .n) 1 tt (plain (λ _. rowOf R)), go-on 𝓤 H A W more))
