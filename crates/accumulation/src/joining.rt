@@ -4,7 +4,7 @@ ghost use Prim.Native.Nat.{_-_, _≤_};
 ghost use Rattle.accumulation.specs.Accumulation.{joins};
 ghost use Rattle.accumulation.specs.Place.{After, inPlace};
 use crate::Accumulation;
-use crate::MARKS;
+use record::FRAME_MARKS;
 
 // Does count d lie after the last frame and the other frames since, is u one of the packet's types, and are the frames held among
 // 36? Of no state that passes the list, and no later record, is it otherwise.
@@ -14,7 +14,7 @@ pub(crate) fn in_place(a: Accumulation, u: u8, d: u64) -> bool
     if 63 < u {
         return false;
     }
-    if MARKS <= a.held {
+    if FRAME_MARKS <= a.held {
         return false;
     }
     if a.held == 0 {

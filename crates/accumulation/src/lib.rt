@@ -42,6 +42,3 @@ pub struct AccumulationStep {
     pub report: AccumulationReport,
     pub work: Work,
 }
-
-// 2^36: from here on a mark above type 35 is set.
-const MARKS: u64 = 68719476736;

@@ -4,9 +4,9 @@ ghost use Prim.Native.Nat.{_<_};
 ghost use Rattle.clock.specs.Clock.{counts};
 ghost use Rattle.accumulation.specs.List.{countsBelow, framesAmong, framesFit, othersFit, noneOpen, accumulationListed};
 use crate::Accumulation;
-use crate::MARKS;
 use clock::COUNTS;
 use clock::Clock;
+use record::FRAME_MARKS;
 
 fn counts_below(a: Accumulation) -> bool
     ensures { λ b. ⌜ b ≡ countsBelow a ⌝ }
@@ -17,7 +17,7 @@ fn counts_below(a: Accumulation) -> bool
 fn frames_among(a: Accumulation) -> bool
     ensures { λ b. ⌜ b ≡ framesAmong a ⌝ }
 {
-    if MARKS <= a.held {
+    if FRAME_MARKS <= a.held {
         return false;
     }
     if a.held == 0 {

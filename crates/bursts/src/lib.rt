@@ -1,5 +1,8 @@
 // Which bytes of a snapshot each burst packet carries (000, section 2.4.1; 02, request 2). No function: the table, and its sizes.
-// A snapshot, 20 packets of types 36 to 55; and one packet.
-pub const SNAPSHOT: usize = 1640;
+use record::Record;
 
-pub const BURST: usize = 82;
+// A snapshot: 20 packets, of types 36 to 55.
+pub const SNAPSHOT: usize = 20 * Record::BURST_SIZE;
+
+// Marks of the packets held, bit t - 36 for type t, are below it: from 2^20 on a mark past type 55 is set.
+pub const PACKET_MARKS: u32 = 1048576;

@@ -8,7 +8,7 @@ use electrons::Count;
 
 // LPMAG_NO_SUCH_PLACE, LPMAG_ABSENT, LPMAG_SCALE_UNKNOWN, LPMAG_TOO_LARGE, LPMAG_NO_SUCH_BIN: above every refusal's number and every
 // value that a function answers in a byte.
-pub const NOWHERE: u8 = 128;
+pub const NO_SUCH_PLACE: u8 = 128;
 
 pub const ABSENT: u8 = 129;
 
@@ -37,7 +37,7 @@ pub fn hand_byte(answer: Raw, byte: &mut u8) -> u8
             0
         }
         Raw::Absent => ABSENT,
-        Raw::NoSuchPlace => NOWHERE,
+        Raw::NoSuchPlace => NO_SUCH_PLACE,
     }
 }
 
@@ -49,6 +49,6 @@ pub fn hand_count(answer: Count, low: &mut u64, high: &mut u64) -> u8
         Count::Within(r) => give(r, low, high),
         Count::ScaleUnknown => SCALE_UNKNOWN,
         Count::Absent => ABSENT,
-        Count::NoSuchPlace => NOWHERE,
+        Count::NoSuchPlace => NO_SUCH_PLACE,
     }
 }

@@ -5,7 +5,7 @@ ghost use Rattle.snapshots.specs.Questions.{threeAsked, pitchAsked, headerAsked
 ghost use Rattle.c_answers.specs.Answers.{AskedGiven};
 ghost use Rattle.c_bursts.specs.Bursts.{ByteGiven, MagAngleGiven};
 ghost use Rattle.c_bursts.specs.Seconds.{burstRange, BurstSamplesGiven, rangeNumber};
-use c_answers::NOWHERE;
+use c_answers::NO_SUCH_PLACE;
 use c_answers::hand_byte;
 use c_answers::hand_count;
 use mag::Unpacked;
@@ -91,7 +91,7 @@ fn hand_range(answer: Unpacked) -> u8
 {
     match answer {
         Unpacked::Range(range) => range,
-        Unpacked::NoSuchPlace => NOWHERE,
+        Unpacked::NoSuchPlace => NO_SUCH_PLACE,
     }
 }
 
@@ -100,7 +100,7 @@ pub extern "C" fn lpmag_burst_range(r: &[u8], which: u8) -> u8
     ensures { λ n. ⌜ n ≡ burstRange (now (r .entry)) which ⌝ }
 {
     if which > 1 {
-        return NOWHERE;
+        return NO_SUCH_PLACE;
     }
     hand_range(burst_mag::range(r, which == 1))
 }
@@ -110,7 +110,7 @@ pub extern "C" fn lpmag_burst_samples(r: &[u8], which: u8, room: &mut [i16]) -> 
     ensures { λ n. ⌜ BurstSamplesGiven (now (r .entry)) which (now (room .entry)) n (now (room .exit)) ⌝ }
 {
     if which > 1 {
-        return NOWHERE;
+        return NO_SUCH_PLACE;
     }
     hand_range(burst_mag::samples(r, which == 1, room))
 }

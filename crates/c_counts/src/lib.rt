@@ -6,7 +6,7 @@ ghost use Rattle.c_answers.specs.Answers.{nowhere, tooLarge, RangeGiven};
 ghost use Rattle.c_counts.specs.Counts.{isDivisor, sumOf, angleNumber};
 use angles::Angle;
 use c_answers::NO_SUCH_BIN;
-use c_answers::NOWHERE;
+use c_answers::NO_SUCH_PLACE;
 use c_answers::TOO_LARGE;
 use c_answers::give;
 use counts::Divided;
@@ -22,7 +22,7 @@ pub extern "C" fn lpmag_count_range(code: u8, divided_by: u8, low: &mut u64, hig
         1 => give(counts::range_of(code, Divided::By1), low, high),
         8 => give(counts::range_of(code, Divided::By8), low, high),
         16 => give(counts::range_of(code, Divided::By16), low, high),
-        _ => NOWHERE,
+        _ => NO_SUCH_PLACE,
     }
 }
 

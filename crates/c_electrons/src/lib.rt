@@ -4,7 +4,7 @@ ghost use Rattle.electrons.specs.Questions.{totalCell, rateCell, sampleAsked, t
 ghost use Rattle.c_answers.specs.Answers.{AskedGiven};
 ghost use Rattle.c_electrons.specs.Electrons.{LaidGiven, ByteGiven, binSamples};
 use c_answers::NO_SUCH_BIN;
-use c_answers::NOWHERE;
+use c_answers::NO_SUCH_PLACE;
 use c_answers::hand_byte;
 use c_answers::hand_count;
 use cells::Placed;
@@ -16,7 +16,7 @@ pub extern "C" fn lpmag_lay_electrons(code: u8, science: &[u8], cells: &mut [u8]
     let answer = cells::lay(code, science, cells);
     match answer {
         Placed::Laid => 0,
-        Placed::NoSuchPlace => NOWHERE,
+        Placed::NoSuchPlace => NO_SUCH_PLACE,
     }
 }
 

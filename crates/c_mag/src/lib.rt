@@ -1,7 +1,7 @@
 // The magnetometer, for C; include/lpmag.h documents each function.
 ghost use mathlib.Core.Path.{_≡_};
 ghost use Rattle.c_mag.specs.Magnetometer.{rangeNumber, SamplesGiven, FieldGiven};
-use c_answers::NOWHERE;
+use c_answers::NO_SUCH_PLACE;
 use mag::Field;
 use mag::Unpacked;
 
@@ -12,7 +12,7 @@ pub extern "C" fn lpmag_range(mag: &[u8]) -> u8
     let range = mag::range_of(mag);
     match range {
         Unpacked::Range(r) => r,
-        Unpacked::NoSuchPlace => NOWHERE,
+        Unpacked::NoSuchPlace => NO_SUCH_PLACE,
     }
 }
 
@@ -23,7 +23,7 @@ pub extern "C" fn lpmag_samples(mag: &[u8], room: &mut [i16]) -> u8
     let range = mag::lay(mag, room);
     match range {
         Unpacked::Range(r) => r,
-        Unpacked::NoSuchPlace => NOWHERE,
+        Unpacked::NoSuchPlace => NO_SUCH_PLACE,
     }
 }
 
@@ -37,6 +37,6 @@ pub extern "C" fn lpmag_field(sample: i16, range: u8, field: &mut f32) -> u8
             *field = x;
             0
         }
-        Field::NoSuchPlace => NOWHERE,
+        Field::NoSuchPlace => NO_SUCH_PLACE,
     }
 }

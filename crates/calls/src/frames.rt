@@ -1,7 +1,7 @@
 // Questions about a finished major frame.
 ghost use Rattle.calls.specs.Frames.{WordGiven, SampleGiven, NominalGiven};
 use c_answers::ABSENT;
-use c_answers::NOWHERE;
+use c_answers::NO_SUCH_PLACE;
 use majors::Nominal;
 use majors::Sample;
 use majors::Word;
@@ -18,7 +18,7 @@ pub fn word(major: CMajor, slot: usize, word: &mut u16) -> u8
             0
         }
         Word::Absent => ABSENT,
-        Word::NoSuchPlace => NOWHERE,
+        Word::NoSuchPlace => NO_SUCH_PLACE,
     }
 }
 
@@ -32,7 +32,7 @@ pub fn sample(major: CMajor, samples: &[i16], slot: usize, number: usize, sample
             0
         }
         Sample::Absent => ABSENT,
-        Sample::NoSuchPlace => NOWHERE,
+        Sample::NoSuchPlace => NO_SUCH_PLACE,
     }
 }
 
@@ -46,6 +46,6 @@ pub fn field(major: CMajor, samples: &[i16], slot: usize, number: usize, field: 
             0
         }
         Nominal::Absent => ABSENT,
-        Nominal::NoSuchPlace => NOWHERE,
+        Nominal::NoSuchPlace => NO_SUCH_PLACE,
     }
 }

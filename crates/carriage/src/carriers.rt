@@ -3,6 +3,8 @@ ghost use mathlib.Core.Path.{_≡_};
 ghost use Prim.Native.Nat.{_<_, _≤_};
 ghost use Rattle.carriage.specs.Carriage.{threeD, carrier};
 ghost use Rattle.carriage.specs.Steps.{halfSpinType, restSize, restCell};
+use crate::CELLS;
+use crate::THREE_D_AT;
 
 // Of sample s of bin 6 or 9, one every half-spin: S0 rides in type 1, S1 and S2 in type 3, S3 to S7 in types 4 to 8, S8 in type 9,
 // S9 to S15 in types 11 to 17; and the next sixteen likewise, 18 types later.
@@ -84,10 +86,10 @@ pub fn carrier_of(p: usize) -> usize
     if p < 4 {
         return rest_carrier(p);
     }
-    if p < 1668 {
+    if p < THREE_D_AT {
         return sample_carrier(p);
     }
-    if p < 2988 {
+    if p < CELLS {
         // 3D byte q, cell 1,668 + q, comes after the 4 header bytes
         return rest_carrier(p - 1664);
     }

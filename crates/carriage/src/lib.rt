@@ -5,3 +5,8 @@ mod numbers;
 pub use carriers::carrier_of;
 pub use numbers::Numbers;
 pub use numbers::numbers_of;
+
+// Header, samples and 3D: so many cells in all; and the first 3D cell.
+pub const CELLS: usize = 2988;
+
+pub const THREE_D_AT: usize = 1668;

@@ -2,12 +2,11 @@
 mod laying;
 mod raw;
 
+use carriage::CELLS;
 pub use laying::Placed;
 pub use laying::lay;
 pub use raw::Raw;
 pub use raw::cell;
 
-// 2,988 cells, then the 9 bytes of top bit pairs.
-pub const SIZE: usize = 2997;
-
-const CELLS: usize = 2988;
+// The cells, then the 9 bytes of top bit pairs.
+pub const CELLS_SIZE: usize = CELLS + 9;

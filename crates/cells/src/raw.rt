@@ -1,8 +1,9 @@
 // The byte of a cell, where its frame is held.
 ghost use mathlib.Core.Path.{_≡_};
 ghost use Rattle.cells.specs.Raw.{holdsCell, CellIs};
-use crate::CELLS;
-use crate::SIZE;
+use crate::CELLS_SIZE;
+use carriage::CELLS;
+use record::FRAME_MARKS;
 
 // The byte of a cell, or why there is none.
 pub enum Raw {
@@ -10,9 +11,6 @@ pub enum Raw {
     Absent,
     NoSuchPlace,
 }
-
-// 2^36: from here on a mark above type 35 is set.
-const MARKS: u64 = 68719476736;
 
 // Is the frame held that carries cell p?
 fn holds_cell(held: u64, p: usize) -> bool
@@ -25,10 +23,10 @@ fn holds_cell(held: u64, p: usize) -> bool
 pub fn cell(cells: &[u8], held: u64, p: usize) -> Raw
     ensures { λ r. ⌜ CellIs (now (cells .entry)) held p r ⌝ }
 {
-    if cells.len() != SIZE {
+    if cells.len() != CELLS_SIZE {
         return Raw::NoSuchPlace;
     }
-    if MARKS <= held {
+    if FRAME_MARKS <= held {
         return Raw::NoSuchPlace;
     }
     if CELLS <= p {

@@ -14,7 +14,6 @@ use crate::decimal::put_number;
 use crate::text::put;
 use accumulation::AccumulationReport;
 use buffers::has_room;
-use bursts::BURST;
 use major::MajorReport;
 use record::Record;
 use snapshot::SnapshotReport;
@@ -59,7 +58,7 @@ fn put_major(report: MajorReport, out: &mut [u8], at: usize) -> usize
         b"major",
         16 * frame.number,
         u16::count_ones(frame.slots) as u64,
-        54 * u16::count_ones(frame.mag_slots) as u64,
+        mag::FRAME_SAMPLES as u64 * u16::count_ones(frame.mag_slots) as u64,
         out,
         at,
     )
@@ -113,7 +112,7 @@ fn put_snapshot(report: SnapshotReport, out: &mut [u8], at: usize) -> usize
         report.closed,
         report.first,
         report.held as u64,
-        BURST,
+        Record::BURST_SIZE,
         out,
         at,
     )

@@ -104,10 +104,10 @@ fn end_listing(
 fn list(from_files: bool, verbose: bool) -> bool {
     let mut bytes = [0u8; INPUT];
     let mut page = [0u8; OUTPUT];
-    let mut open_cells = [0u8; cells::SIZE];
-    let mut finished_cells = [0u8; cells::SIZE];
-    let mut open_samples = [0i16; reader::SAMPLES];
-    let mut finished_samples = [0i16; reader::SAMPLES];
+    let mut open_cells = [0u8; cells::CELLS_SIZE];
+    let mut finished_cells = [0u8; cells::CELLS_SIZE];
+    let mut open_samples = [0i16; major::MAJOR_SAMPLES];
+    let mut finished_samples = [0i16; major::MAJOR_SAMPLES];
     let mut open_snapshot = [0u8; bursts::SNAPSHOT];
     let mut first_snapshot = [0u8; bursts::SNAPSHOT];
     let mut second_snapshot = [0u8; bursts::SNAPSHOT];

@@ -9,7 +9,5 @@ pub use unpacking::Unpacked;
 pub use unpacking::lay;
 pub use unpacking::range_of;
 
-// MAG bytes in a packet, and the numbers in them: 18 vectors of x, y, z.
-pub const SIZE: usize = 82;
-
-pub const SAMPLES: usize = 54;
+// The numbers in a frame's MAG bytes: 18 vectors of x, y, z.
+pub const FRAME_SAMPLES: usize = 54;

@@ -11,12 +11,17 @@ pub use steps::report;
 pub use steps::step;
 pub use steps::unreported;
 
+// The slots of a major frame, and the samples of all of them.
+pub const SLOTS: usize = 16;
+
+pub const MAJOR_SAMPLES: usize = SLOTS * mag::FRAME_SAMPLES;
+
 // Its number, subcom words and ranges by slot, the slots held and those held with MAG (bit s for slot s). It is open when it holds a
 // slot. In this order the words and ranges begin at multiples of 16 bytes of the state, and are copied and tested in whole ones.
 pub struct Major {
     pub number: u64,
-    pub words: [u16; 16],
-    pub ranges: [u8; 16],
+    pub words: [u16; SLOTS],
+    pub ranges: [u8; SLOTS],
     pub slots: u16,
     pub mag_slots: u16,
 }

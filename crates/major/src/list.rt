@@ -3,6 +3,7 @@ ghost use mathlib.Core.Path.{_≡_};
 ghost use Prim.Native.Nat.{_<_};
 ghost use Rattle.major.specs.List.{slotTest, slotsHold, majorNow, noSlot, majorListed};
 use crate::Major;
+use crate::SLOTS;
 use clock::Clock;
 
 // Slot i, below 16: its two marks, its range, its word; it is handed these and not the frame, which would be copied. Neither this
@@ -21,7 +22,7 @@ fn slots_hold(m: Major) -> bool
 {
     let mut all = true;
     let mut i = 0;
-    while i < 16 {
+    while i < SLOTS {
         all = slot_holds(m.slots, m.mag_slots, m.ranges[i], m.words[i], i) & all;
         i += 1;
     }

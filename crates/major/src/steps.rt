@@ -7,6 +7,7 @@ ghost use Rattle.major.specs.Place.{Free, slotFree, leaves, SteppedIs};
 use crate::Major;
 use crate::MajorReport;
 use crate::MajorStep;
+use crate::SLOTS;
 use crate::SlotWork;
 use buffers::Work;
 use buffers::no_work;
@@ -19,8 +20,8 @@ pub fn no_major() -> Major
         number: 0,
         slots: 0,
         mag_slots: 0,
-        ranges: [0; 16],
-        words: [0; 16],
+        ranges: [0; SLOTS],
+        words: [0; SLOTS],
     }
 }
 

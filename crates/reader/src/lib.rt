@@ -9,7 +9,3 @@ mod steps;
 pub use steps::finish;
 pub use steps::right_sizes;
 pub use steps::step;
-
-// The open and the finished cells have cells::SIZE bytes each, the open snapshot and the two finished ones bursts::SNAPSHOT, the open
-// and the finished samples so many numbers: 16 slots of 54.
-pub const SAMPLES: usize = 864;

@@ -2,13 +2,14 @@
 ghost use mathlib.Core.Path.{_≡_};
 ghost use Rattle.reader.specs.Buffers.{sizedBy, buffers};
 ghost use Rattle.reader.specs.Steps.{StepIs, FinishIs};
-use crate::SAMPLES;
 use crate::cells_part::work_cells;
 use crate::moving::close;
 use crate::samples_part::close_samples;
 use crate::samples_part::work_samples;
 use crate::snapshot_part::work_snapshot;
 use bursts::SNAPSHOT;
+use cells::CELLS_SIZE;
+use major::MAJOR_SAMPLES;
 use state::Finished;
 use state::State;
 use state::Stepped;
@@ -26,9 +27,9 @@ pub fn right_sizes(
     ensures { λ b. ⌜ b ≡ sizedBy «open_cells» «finished_cells» «open_samples» «finished_samples»
         «open_snapshot» «first_snapshot» «second_snapshot» ⌝ }
 {
-    ((open_cells == cells::SIZE)
-        & ((finished_cells == cells::SIZE)
-            & ((open_samples == SAMPLES) & (finished_samples == SAMPLES))))
+    ((open_cells == CELLS_SIZE)
+        & ((finished_cells == CELLS_SIZE)
+            & ((open_samples == MAJOR_SAMPLES) & (finished_samples == MAJOR_SAMPLES))))
         & ((open_snapshot == SNAPSHOT)
             & ((first_snapshot == SNAPSHOT) & (second_snapshot == SNAPSHOT)))
 }

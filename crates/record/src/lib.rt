@@ -103,3 +103,6 @@ impl Record {
 
     pub const BURST_SIZE: usize = 82;
 }
+
+// Marks of the frames held, bit t for real-time type t, are below it: from 2^36 on a mark above type 35 is set.
+pub const FRAME_MARKS: u64 = 68719476736;

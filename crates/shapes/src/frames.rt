@@ -2,12 +2,13 @@
 ghost use mathlib.Core.Path.{_≡_};
 ghost use Rattle.shapes.specs.Frames.{majorIn, majorOut};
 use major::Major;
+use major::SLOTS;
 
 #[repr(C)]
 pub struct CMajor {
     pub number: u64,
-    pub words: [u16; 16],
-    pub ranges: [u8; 16],
+    pub words: [u16; SLOTS],
+    pub ranges: [u8; SLOTS],
     pub slots: u16,
     pub mag_slots: u16,
     pub spare32: u32,

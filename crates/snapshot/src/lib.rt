@@ -50,8 +50,5 @@ pub struct SnapshotStep {
     pub two: PacketWork,
 }
 
-// 2^20: from here on a mark past type 55 is set.
-const MARKS: u32 = 1048576;
-
 // The type of the first packet.
 const FIRST: u8 = 36;

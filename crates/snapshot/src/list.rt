@@ -2,14 +2,14 @@
 ghost use mathlib.Core.Path.{_≡_};
 ghost use Rattle.snapshot.specs.List.{packetsAmong, lastHighest, firstFits, noneOpen, snapshotListed};
 use crate::FIRST;
-use crate::MARKS;
 use crate::Snapshot;
+use bursts::PACKET_MARKS;
 use clock::Clock;
 
 fn packets_among(s: Snapshot) -> bool
     ensures { λ b. ⌜ b ≡ packetsAmong s ⌝ }
 {
-    s.held < MARKS
+    s.held < PACKET_MARKS
 }
 
 fn last_highest(s: Snapshot) -> bool

@@ -5,7 +5,6 @@ ghost use Prim.Native.Nat.{_^_, _<_};
 ghost use Rattle.snapshot.specs.Snapshot.{noSnapshot, unreported, reported, packetWork, isPart, lays, passes, extends, renews, stepPacket, together};
 ghost use Rattle.snapshot.specs.Place.{isQuiet, leaves, steppedAt};
 use crate::FIRST;
-use crate::MARKS;
 use crate::PacketStep;
 use crate::PacketWork;
 use crate::Snapshot;
@@ -18,8 +17,9 @@ use crate::packets::is_part;
 use crate::packets::joins;
 use buffers::Work;
 use buffers::no_work;
-use bursts::BURST;
+use bursts::PACKET_MARKS;
 use clock::Clock;
+use record::Record;
 
 // None: all 0.
 pub fn no_snapshot() -> Snapshot
@@ -76,7 +76,7 @@ fn laying(code: u8, copies: bool, clears: bool) -> PacketWork
             clears: clears,
             lays: true,
         },
-        at: BURST * (code % 64 - FIRST) as usize,
+        at: Record::BURST_SIZE * (code % 64 - FIRST) as usize,
     }
 }
 
@@ -193,7 +193,7 @@ pub fn step(clock: Clock, s: Snapshot, d: u64, one: u8, two: u8) -> SnapshotStep
     if is_quiet(s, one, two) {
         return still(s);
     }
-    if MARKS <= s.held {
+    if PACKET_MARKS <= s.held {
         return still(s);
     }
     let x = step_packet(cut_if(!follows(clock, d), s), d, one);

@@ -1,16 +1,14 @@
 // The raw bytes of a snapshot, where their packets are held.
 ghost use Rattle.snapshots.specs.Raw.{ByteIs, MagAngleIs};
-use bursts::BURST;
+use bursts::PACKET_MARKS;
 use bursts::SNAPSHOT;
 use cells::Raw;
-
-// 2^20: from here on a mark past type 55 is set.
-const MARKS: u32 = 1048576;
+use record::Record;
 
 // The bytes of the two magnetic samples, and where they stand.
-const ANGLES: usize = 4;
+const MAG_ANGLES: usize = 4;
 
-const ANGLES_AT: usize = 1564;
+const MAG_ANGLES_AT: usize = 1564;
 
 // Byte 0 to 1,639.
 pub fn byte(snapshot: &[u8], held: u32, place: usize) -> Raw
@@ -19,13 +17,13 @@ pub fn byte(snapshot: &[u8], held: u32, place: usize) -> Raw
     if snapshot.len() != SNAPSHOT {
         return Raw::NoSuchPlace;
     }
-    if MARKS <= held {
+    if PACKET_MARKS <= held {
         return Raw::NoSuchPlace;
     }
     if SNAPSHOT <= place {
         return Raw::NoSuchPlace;
     }
-    if (held >> (place / BURST)) % 2 != 1 {
+    if (held >> (place / Record::BURST_SIZE)) % 2 != 1 {
         return Raw::Absent;
     }
     Raw::Byte(snapshot[place])
@@ -35,8 +33,8 @@ pub fn byte(snapshot: &[u8], held: u32, place: usize) -> Raw
 pub fn mag_angle(snapshot: &[u8], held: u32, number: usize) -> Raw
     ensures { λ r. ⌜ MagAngleIs (now (snapshot .entry)) held number r ⌝ }
 {
-    if ANGLES <= number {
+    if MAG_ANGLES <= number {
         return Raw::NoSuchPlace;
     }
-    byte(snapshot, held, ANGLES_AT + number)
+    byte(snapshot, held, MAG_ANGLES_AT + number)
 }
