@@ -9,7 +9,7 @@ use lib.Dec.{ltb, leb}
 use borrow.Author.Tests.{ne-eqb, le-leb, lt-leb, lt-ltb, le-ltb, ltb-true, ltb-false, leb-true, leb-false}
 use Rattle.prelude.proofs.Marks.{none-above}
 use Rattle.clock.specs.declared.Clock.{Clock}
-use Rattle.accumulation.specs.List.{framesAmong, framesFit, othersFit}
+use Rattle.accumulation.specs.Soundness.{framesAmong, framesFit, othersFit}
 use Rattle.accumulation.specs.Place.{inPlace}
 use Rattle.accumulation.specs.declared.Accumulation.{Accumulation}
 

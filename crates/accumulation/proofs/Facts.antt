@@ -15,7 +15,7 @@ use Rattle.clock.specs.Clock.{counts, begun}
 use Rattle.clock.specs.declared.Clock.{Clock}
 use Rattle.clock.proofs.Laws.{has-begun}
 use Rattle.accumulation.specs.Accumulation.{isOpen, gap, fewest, most, joins, stepAccumulation}
-use Rattle.accumulation.specs.List.{countsBelow, framesAmong, framesFit, othersFit, noneOpen, accumulationListed}
+use Rattle.accumulation.specs.Soundness.{countsBelow, framesAmong, framesFit, othersFit, noneOpen, accumulationSound}
 use Rattle.accumulation.specs.Place.{After, inPlace, steppedAt}
 use Rattle.accumulation.specs.declared.Accumulation.{Accumulation}
 
@@ -28,8 +28,8 @@ pub record Frames (c : Clock) (a : Accumulation) : Type 0 where
   pub shut : noneOpen a ≡ true
   pub start : begun c (a .held) ≡ true
 
-pub frames : (c : Clock) (a : Accumulation) → accumulationListed c a ≡ true → Frames c a
-unfolding accumulationListed
+pub frames : (c : Clock) (a : Accumulation) → accumulationSound c a ≡ true → Frames c a
+unfolding accumulationSound
 frames c a e =
     let p = two (countsBelow a) _ e in
     let q = two (framesAmong a) _ (p .1) in
@@ -38,9 +38,9 @@ frames c a e =
     let t = two (noneOpen a) _ (s .1) in
     record { counted = p .0; among = q .0; fit = r .0; others = s .0; shut = t .0; start = t .1 }
 
-pub is-listed : (c : Clock) (a : Accumulation) → Frames c a → accumulationListed c a ≡ true
-unfolding accumulationListed
-is-listed c a f = rw (f .counted, f .among, f .fit, f .others, f .shut) (f .start)
+pub is-sound : (c : Clock) (a : Accumulation) → Frames c a → accumulationSound c a ≡ true
+unfolding accumulationSound
+is-sound c a f = rw (f .counted, f .among, f .fit, f .others, f .shut) (f .start)
 
 pub first-below : (a : Accumulation) → countsBelow a ≡ true → a .first < counts
 unfolding countsBelow
@@ -104,7 +104,7 @@ below-mark a u d f e =
     omega (arith, highest-high (a .held) (a .«last_type») q, pow-mono {i = a .«last_type» + 1} {j = u} (omega arith))
 
 -- a later count lies after the last frame and the other frames since
-module _ (c : Clock) (a : Accumulation) (e : accumulationListed c a ≡ true) (d : ℕ) (above : c .any ≡ true → c .last < d) where
+module _ (c : Clock) (a : Accumulation) (e : accumulationSound c a ≡ true) (d : ℕ) (above : c .any ≡ true → c .last < d) where
   known : Frames c a
   known = frames c a e
 

@@ -15,9 +15,9 @@ use Rattle.clock.specs.Clock.{counts, accepted}
 use Rattle.clock.specs.declared.Clock.{Clock}
 use Rattle.clock.proofs.Laws.{not-begun}
 use Rattle.accumulation.specs.Accumulation.{noAccumulation, joins, joined, started, passed, extends, renews, passes, stepAccumulation}
-use Rattle.accumulation.specs.List.{countsBelow, framesAmong, framesFit, othersFit, noneOpen, accumulationListed}
+use Rattle.accumulation.specs.Soundness.{countsBelow, framesAmong, framesFit, othersFit, noneOpen, accumulationSound}
 use Rattle.accumulation.specs.declared.Accumulation.{Accumulation}
-use Rattle.accumulation.proofs.Facts.{Frames, frames, is-listed, first-below, fits, others-last, none-zero, joins-open, below-mark, is-above}
+use Rattle.accumulation.proofs.Facts.{Frames, frames, is-sound, first-below, fits, others-last, none-zero, joins-open, below-mark, is-above}
 
 ones-zero : ones 0 ≡ 0
 unfolding ones onesIn
@@ -87,9 +87,9 @@ keeps-started u d k b =
     one = ap ones (sym (unmarked u)) ∙ ones-marked 0 u (pow-pos u) ∙ ap (λ (x : ℕ). x + 1) ones-zero
 
 -- none open passes with every clock
-pub none-listed : (c : Clock) → accumulationListed c noAccumulation ≡ true
+pub none-sound : (c : Clock) → accumulationSound c noAccumulation ≡ true
 unfolding countsBelow framesAmong framesFit othersFit noneOpen ones onesIn
-none-listed c = is-listed c noAccumulation (record {
+none-sound c = is-sound c noAccumulation (record {
   counted = refl;
   among = refl;
   fit = refl;
@@ -99,10 +99,10 @@ none-listed c = is-listed c noAccumulation (record {
 })
 
 -- and a record at a later count keeps it
-pub step-listed : (c : Clock) (a : Accumulation) (science : Bool) (u d : ℕ) → accumulationListed c a ≡ true → (science ≡ true → u < 36)
-    → (c .any ≡ true → c .last < d) → d < counts → accumulationListed (accepted d) (stepAccumulation a science u d .next) ≡ true
+pub step-sound : (c : Clock) (a : Accumulation) (science : Bool) (u d : ℕ) → accumulationSound c a ≡ true → (science ≡ true → u < 36)
+    → (c .any ≡ true → c .last < d) → d < counts → accumulationSound (accepted d) (stepAccumulation a science u d .next) ≡ true
 unfolding stepAccumulation
-step-listed c a science u d e t above b = is-listed (accepted d) _ (go science (joins a u d) t refl)
+step-sound c a science u d e t above b = is-sound (accepted d) _ (go science (joins a u d) t refl)
   where
     f : Frames c a
     f = frames c a e
@@ -118,7 +118,7 @@ all-zero : (first held type count others : ℕ) → first ≡ 0 → held ≡ 0 �
     → _≡_ {A = Accumulation} (record { first = first; held = held; «last_type» = type; «last_count» = count; others = others }) noAccumulation
 all-zero first held type count others a b c d e = rw (a, b, c, d, e)
 
-pub unstarted : (c : Clock) (a : Accumulation) → accumulationListed c a ≡ true → c .any ≡ false → a ≡ noAccumulation
+pub unstarted : (c : Clock) (a : Accumulation) → accumulationSound c a ≡ true → c .any ≡ false → a ≡ noAccumulation
 unstarted c a e n =
     let f = frames c a e in
     let h = not-begun c (a .held) (f .start) n in

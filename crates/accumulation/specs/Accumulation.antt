@@ -9,8 +9,8 @@ use Rattle.buffers.specs.Working.{noWork}
 use Rattle.accumulation.specs.declared.Accumulation.{Accumulation}
 use Rattle.accumulation.specs.declared.AccumulationReport.{AccumulationReport}
 use Rattle.accumulation.specs.declared.AccumulationStep.{AccumulationStep}
-use Rattle.accumulation.specs.declared.Gap.{Gap}
-use Rattle.accumulation.specs.declared.Gap.the-variants.{Opens, Joins, Neither}
+use Rattle.accumulation.specs.declared.GapDecision.{GapDecision}
+use Rattle.accumulation.specs.declared.GapDecision.the-variants.{Opens, Joins, Neither}
 
 -- "An open accumulation holds at least one frame"
 abbrev pub isOpen : Accumulation → Bool
@@ -79,12 +79,12 @@ unfoldable pub stepAccumulation : Accumulation → Bool → ℕ → ℕ → Accu
 stepAccumulation a science u d = cond science (cond (joins a u d) (extends a u d) (renews a u d)) (passes a)
 
 -- what a gap decision means for the open cells: they are set to 0 by a frame that opens, and one that opens or joins is laid in
-unfoldable pub clearsFor : Gap → Bool
+unfoldable pub clearsFor : GapDecision → Bool
 clearsFor Opens = true
 clearsFor Joins = false
 clearsFor Neither = false
 
-unfoldable pub laysFor : Gap → Bool
+unfoldable pub laysFor : GapDecision → Bool
 laysFor Opens = true
 laysFor Joins = true
 laysFor Neither = false

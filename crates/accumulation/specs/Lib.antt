@@ -1,3 +1,3 @@
 pub mod Accumulation
-pub mod List
+pub mod Soundness
 pub mod Place

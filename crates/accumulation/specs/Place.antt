@@ -9,7 +9,7 @@ use Rattle.buffers.specs.Working.{noWork}
 use Rattle.accumulation.specs.Accumulation.{unreported, stepAccumulation}
 use Rattle.accumulation.specs.declared.Accumulation.{Accumulation}
 use Rattle.accumulation.specs.declared.AccumulationStep.{AccumulationStep}
-use Rattle.accumulation.specs.declared.Gap.the-variants.{Neither}
+use Rattle.accumulation.specs.declared.GapDecision.the-variants.{Neither}
 
 -- "frames held among 36", a type of six bits, and a count after the last frame and the other frames since
 unfoldable pub inPlace : Accumulation → ℕ → ℕ → Bool

@@ -1,11 +1,11 @@
 // The open accumulation: what joins it, what a record makes of it, what it reports when it closes, and its part of the state list
 // (01, "Joining accumulations", "Numbers a refused record gets"). No buffer is touched here.
 mod joining;
-mod list;
+mod soundness;
 mod steps;
 
 use buffers::Work;
-pub use list::is_listed;
+pub use soundness::is_sound;
 pub use steps::no_accumulation;
 pub use steps::report;
 pub use steps::step;
@@ -22,7 +22,7 @@ pub struct Accumulation {
 }
 
 // What became of a frame: one with science opens an accumulation or joins the open one, another does neither.
-pub enum Gap {
+pub enum GapDecision {
     Opens,
     Joins,
     Neither,
@@ -37,7 +37,7 @@ pub struct AccumulationReport {
 
 // A record's part in it: the gap decision, the accumulation after it, what closed, and what is done to the cells.
 pub struct AccumulationStep {
-    pub gap: Gap,
+    pub gap: GapDecision,
     pub next: Accumulation,
     pub report: AccumulationReport,
     pub work: Work,

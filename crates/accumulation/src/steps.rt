@@ -6,7 +6,7 @@ ghost use Rattle.accumulation.specs.Place.{After, leaves, steppedAt};
 use crate::Accumulation;
 use crate::AccumulationReport;
 use crate::AccumulationStep;
-use crate::Gap;
+use crate::GapDecision;
 use crate::joining::in_place;
 use crate::joining::joins_at;
 use buffers::Work;
@@ -55,7 +55,7 @@ fn leave(a: Accumulation) -> AccumulationStep
     ensures { λ x. ⌜ x ≡ leaves a ⌝ }
 {
     AccumulationStep {
-        gap: Gap::Neither,
+        gap: GapDecision::Neither,
         next: a,
         report: unreported(),
         work: no_work(),
@@ -81,7 +81,7 @@ fn extend(a: Accumulation, u: u8, d: u64) -> AccumulationStep
     ensures { λ x. ⌜ x ≡ extends a u d ⌝ }
 {
     AccumulationStep {
-        gap: Gap::Joins,
+        gap: GapDecision::Joins,
         next: Accumulation {
             first: a.first,
             held: a.held + (1u64 << u),
@@ -104,7 +104,7 @@ fn renew(a: Accumulation, u: u8, d: u64) -> AccumulationStep
     ensures { λ x. ⌜ x ≡ renews a u d ⌝ }
 {
     AccumulationStep {
-        gap: Gap::Opens,
+        gap: GapDecision::Opens,
         next: Accumulation {
             first: d,
             held: 1u64 << u,

@@ -14,7 +14,7 @@ use Rattle.record.specs.Contents.{recordOf}
 use Rattle.shapes.specs.Fields.{fieldsOut}
 use Rattle.state.specs.Deciding.{numberOf, decidedOf}
 use Rattle.state.specs.Ending.{endedOf, ending, unended}
-use Rattle.state.specs.List.{listed}
+use Rattle.state.specs.Soundness.{sound}
 use Rattle.state.specs.declared.deciding.Decided.{Decided}
 use Rattle.state.proofs.Numbers.{refused-is}
 use Rattle.reader.specs.Buffers.{Buffers, sized, worked}
@@ -79,7 +79,7 @@ module _ (s : CState) (b b′ : Buffers) where
   module _ (p : CClosed) (y : CFinished) (is : FinishGiven s p b y b′) (z : y .answer ≡ 0 → ⊥) where
     pub finish-kept : (y ≡ backClosed (y .answer) s p) × (b′ ≡ b)
     unfolding handedClosed endedOf
-    finish-kept = go (isState s) (sized b && listed (stateIn s)) (is .number) (is .result) (is .left)
+    finish-kept = go (isState s) (sized b && sound (stateIn s)) (is .number) (is .result) (is .left)
       where
         go : (t u : Bool) → y .answer ≡ cond t (cond u 0 1) 1
             → y ≡ cond t (handedClosed (cond u (ending (stateIn s)) (unended (stateIn s)) .finished) s p) (backClosed 1 s p)

@@ -4,7 +4,7 @@ use Prim.Native.Nat.{ℕ}
 use mathlib.Core.Bool.{Bool, cond, _&&_}
 use mathlib.Core.List.{List}
 use mathlib.Core.Path.{_≡_}
-use Rattle.state.specs.List.{listed}
+use Rattle.state.specs.Soundness.{sound}
 use Rattle.reader.specs.Buffers.{Buffers, sized}
 use Rattle.feed.specs.Feeding.{Desk, begun, desk, feedAll}
 use Rattle.feed.specs.declared.feeding.Fed.{Fed}
@@ -16,7 +16,7 @@ use Rattle.calls.specs.declared.feeding.CFeeding.{CFeeding}
 
 -- rule 1: a state that passes the list, and buffers of their sizes
 unfoldable pub readyBy : CState → Bool → Bool
-readyBy s sized = isState s && (sized && listed (stateIn s))
+readyBy s sized = isState s && (sized && sound (stateIn s))
 
 abbrev pub ready : CState → Buffers → Bool
 ready s b = readyBy s (sized b)

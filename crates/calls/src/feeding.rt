@@ -9,7 +9,7 @@ use shapes::fed_out;
 use shapes::is_state;
 use shapes::state_in;
 use shapes::state_out;
-use state::listed;
+use state::is_sound;
 
 // The answer to the call, and the state and the report after it.
 pub struct CFeeding {
@@ -28,7 +28,7 @@ fn is_ready(state: CState, sized: bool) -> bool
     if !sized {
         return false;
     }
-    listed(state_in(state))
+    is_sound(state_in(state))
 }
 
 fn hand_over_fed(x: Fed) -> CFeeding

@@ -10,7 +10,7 @@ use borrow.Author.Tests.{eqb-true, eqb-false, ltb-true, ltb-false, leb-true, lt-
 use Rattle.prelude.proofs.Conds.{two, second}
 use Rattle.record.specs.declared.Record.{Record}
 use Rattle.clock.specs.Clock.{circle, turns, counts, turnOf, ownOf, ahead, farthest, later, turnAt, turnFits, countOf, arrivalAt}
-use Rattle.clock.specs.Clock.{isLater, hasTurn, dated, accepted, unset, begun, clockListed}
+use Rattle.clock.specs.Clock.{isLater, hasTurn, dated, accepted, unset, begun, clockSound}
 use Rattle.clock.specs.declared.Clock.{Clock}
 use Rattle.clock.specs.declared.Arrival.{Arrival}
 use Rattle.clock.specs.declared.Arrival.the-variants.{At, NotLater, PastTurns}
@@ -118,12 +118,12 @@ pub dated-below : (c : Clock) (f : Record) → hasTurn c f ≡ true → dated c 
 unfolding hasTurn turnFits dated countOf
 dated-below c f e = omega (arith, ltb-true (turnAt c (f .count)) turns e)
 
-pub last-below : (c : Clock) → clockListed c ≡ true → c .last < counts
-unfolding clockListed
+pub last-below : (c : Clock) → clockSound c ≡ true → c .last < counts
+unfolding clockSound
 last-below c e = ltb-true (c .last) counts (two (ltb (c .last) counts) _ e .0)
 
 -- 14's test in other words: the count is below the last one's 24 bits and the last turn is 4,095
-pub past-is : (c : Clock) (f : Record) → clockListed c ≡ true
+pub past-is : (c : Clock) (f : Record) → clockSound c ≡ true
     → hasTurn c f ≡ not (c .any && (ltb (ownOf (f .count)) (ownOf (c .last)) && eqb (turnOf (c .last)) 4095))
 unfolding hasTurn turnFits turnAt
 past-is c f e = go (c .any) (ltb (ownOf (f .count)) (ownOf (c .last)))
@@ -183,13 +183,13 @@ module _ (c : Clock) (d : ℕ) (h : Follows c d) where
   unfolding isLater hasTurn dated turnFits countOf
   stands f e = rw e (own-later, lt-ltb (turnAt c (ownOf d)) turns (omega (arith, own-turn, h .small)), omega (arith, own-turn))
 
-pub accepted-listed : (d : ℕ) → d < counts → clockListed (accepted d) ≡ true
-unfolding clockListed
-accepted-listed d h = rw (lt-ltb d counts h)
+pub accepted-sound : (d : ℕ) → d < counts → clockSound (accepted d) ≡ true
+unfolding clockSound
+accepted-sound d h = rw (lt-ltb d counts h)
 
-pub unset-listed : clockListed unset ≡ true
-unfolding clockListed
-unset-listed = refl
+pub unset-sound : clockSound unset ≡ true
+unfolding clockSound
+unset-sound = refl
 
 -- where a number isn't 0 something was accepted
 pub has-begun : (c : Clock) (n : ℕ) → begun c n ≡ true → (n ≡ 0 → ⊥) → c .any ≡ true
@@ -207,6 +207,6 @@ not-begun c n e a = eqb-true n 0 (second (c .any) (eqb n 0) a e)
 made : (any : Bool) (last : ℕ) → any ≡ false → last ≡ 0 → _≡_ {A = Clock} (record { any = any; last = last }) unset
 made any last p q = rw (p, q)
 
-pub unset-is : (c : Clock) → clockListed c ≡ true → c .any ≡ false → c ≡ unset
-unfolding clockListed
+pub unset-is : (c : Clock) → clockSound c ≡ true → c .any ≡ false → c ≡ unset
+unfolding clockSound
 unset-is c e a = made (c .any) (c .last) a (not-begun c (c .last) (two (ltb (c .last) counts) (begun c (c .last)) e .1) a)

@@ -77,5 +77,5 @@ abbrev pub begun : Clock → ℕ → Bool
 begun c n = c .any || eqb n 0
 
 -- the clock's part of the state list: with the last count its turn is 0 until something is accepted
-unfoldable pub clockListed : Clock → Bool
-clockListed c = ltb (c .last) counts && begun c (c .last)
+unfoldable pub clockSound : Clock → Bool
+clockSound c = ltb (c .last) counts && begun c (c .last)

@@ -1,7 +1,7 @@
 // The reader's clock: what "later" means, the turns, at which full count a record stands, and the clock's part of the state list
 // (01, "Numbers a refused record gets"; 02, request 1).
 ghost use mathlib.Core.Path.{_≡_};
-ghost use Rattle.clock.specs.Clock.{ahead, arrivalAt, accepted, unset, begun, clockListed};
+ghost use Rattle.clock.specs.Clock.{ahead, arrivalAt, accepted, unset, begun, clockSound};
 
 // Whether anything was accepted, and the full count of the last accepted record: its turn is what lies above 24 bits.
 pub struct Clock {
@@ -79,8 +79,8 @@ pub fn begun(clock: Clock, n: u64) -> bool
 }
 
 // Does the clock pass its part of the list?
-pub fn is_listed(clock: Clock) -> bool
-    ensures { λ b. ⌜ b ≡ clockListed clock ⌝ }
+pub fn is_sound(clock: Clock) -> bool
+    ensures { λ b. ⌜ b ≡ clockSound clock ⌝ }
 {
     if COUNTS <= clock.last {
         return false;

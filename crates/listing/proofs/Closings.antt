@@ -16,7 +16,7 @@ use Rattle.major.specs.Major.{majorOpen, majorReported}
 use Rattle.major.specs.declared.MajorReport.{MajorReport}
 use Rattle.major.proofs.Facts.{slots-of, current-slot}
 use Rattle.snapshot.specs.declared.SnapshotReport.{SnapshotReport}
-use Rattle.state.specs.List.{listed}
+use Rattle.state.specs.Soundness.{sound}
 use Rattle.state.specs.declared.State.{State}
 use Rattle.state.specs.declared.closed.Closed.{Closed}
 use Rattle.state.proofs.Facts.{facts}
@@ -129,7 +129,7 @@ module _ (c : Closed) {d : List ℕ} {at : ℕ} (h : at + closedSize ≤ length 
           (put-then s (omega (arith, after-accum, length-snap (c .«first_snapshot»))) t))
 
 -- no line is left out: a major frame that closes from a state that keeps 01's list has its number below 2^32
-pub always-listed : (s : State) → listed s ≡ true → majorOpen (s .major) ≡ true → majorLine (majorReported (s .major)) ≡ frameLine (s .major)
+pub always-listed : (s : State) → sound s ≡ true → majorOpen (s .major) ≡ true → majorLine (majorReported (s .major)) ≡ frameLine (s .major)
 unfolding majorLine
 always-listed s h o =
     let f = facts s h in

@@ -16,7 +16,7 @@ use Rattle.clock.specs.Clock.{begun}
 use Rattle.clock.specs.declared.Clock.{Clock}
 use Rattle.clock.proofs.Laws.{has-begun}
 use Rattle.major.specs.Major.{continues, majorOpen, slotOf}
-use Rattle.major.specs.List.{magAmong, rangeFits, rangeKept, wordKept, slotTest, slotHolds, slotsHold, majorNow, noSlot, majorListed}
+use Rattle.major.specs.Soundness.{magAmong, rangeFits, rangeKept, wordKept, slotTest, slotHolds, slotsHold, majorNow, noSlot, majorSound}
 use Rattle.major.specs.Place.{Free}
 use Rattle.major.specs.declared.Major.{Major}
 
@@ -27,17 +27,17 @@ pub record Slots (c : Clock) (m : Major) : Type 0 where
   pub empty : noSlot m ≡ true
   pub start : begun c (m .slots) ≡ true
 
-pub slots-of : (c : Clock) (m : Major) → majorListed c m ≡ true → Slots c m
-unfolding majorListed
+pub slots-of : (c : Clock) (m : Major) → majorSound c m ≡ true → Slots c m
+unfolding majorSound
 slots-of c m e =
     let p = two (slotsHold m) _ e in
     let q = two (majorNow c m) _ (p .1) in
     let r = two (noSlot m) _ (q .1) in
     record { slots = p .0; current = q .0; empty = r .0; start = r .1 }
 
-pub is-listed : (c : Clock) (m : Major) → Slots c m → majorListed c m ≡ true
-unfolding majorListed
-is-listed c m f = rw (f .slots, f .current, f .empty) (f .start)
+pub is-sound : (c : Clock) (m : Major) → Slots c m → majorSound c m ≡ true
+unfolding majorSound
+is-sound c m f = rw (f .slots, f .current, f .empty) (f .start)
 
 -- its number and highest slot
 pub current-slot : (c : Clock) (m : Major) → majorNow c m ≡ true → (m .slots ≡ 0 → ⊥)
@@ -75,7 +75,7 @@ is-open : (m : Major) → majorOpen m ≡ true → m .slots ≡ 0 → ⊥
 is-open m e q = let y : not (eqb (m .slots) 0) ≡ false = rw (eq-eqb (m .slots) 0 q) in false≢true (sym y ∙ e)
 
 -- a later count of the same major frame has a higher slot
-pub is-free : (c : Clock) (m : Major) (d : ℕ) → majorListed c m ≡ true → (c .any ≡ true → c .last < d) → continues m d ≡ true → Free m d
+pub is-free : (c : Clock) (m : Major) (d : ℕ) → majorSound c m ≡ true → (c .any ≡ true → c .last < d) → continues m d ≡ true → Free m d
 unfolding continues
 is-free c m d e above t =
     let f = slots-of c m e in

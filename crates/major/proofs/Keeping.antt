@@ -18,10 +18,10 @@ use Rattle.clock.specs.Clock.{accepted}
 use Rattle.clock.specs.declared.Clock.{Clock}
 use Rattle.clock.proofs.Laws.{not-begun}
 use Rattle.major.specs.Major.{majorNumber, slotOf, noMajor, continues, into, stays, turns, stepMajor}
-use Rattle.major.specs.List.{slotTest, slotHolds, slotsHold, majorNow, noSlot, majorListed}
+use Rattle.major.specs.Soundness.{slotTest, slotHolds, slotsHold, majorNow, noSlot, majorSound}
 use Rattle.major.specs.Shape.{Shaped}
 use Rattle.major.specs.declared.Major.{Major}
-use Rattle.major.proofs.Facts.{Slots, slots-of, is-listed, slot-clauses, well-facts, mag-among, is-free}
+use Rattle.major.proofs.Facts.{Slots, slots-of, is-sound, slot-clauses, well-facts, mag-among, is-free}
 use Rattle.major.proofs.Parts.{low-marks}
 
 -- a frame that a slot can go into
@@ -101,14 +101,14 @@ module _ (m : Major) (d : ℕ) (t : Room m (slotOf d)) (g w : ℕ) (hg : g ≤ 7
   shaped-into false = record { ranges = t .shaped .ranges; words = simp length-set (t .shaped .words); mags = mags-small false }
 
 -- none open passes with every clock
-pub none-listed : (c : Clock) → majorListed c noMajor ≡ true
+pub none-sound : (c : Clock) → majorSound c noMajor ≡ true
 unfolding slotsHold majorNow noSlot
-none-listed c =
-    is-listed c noMajor (record { slots = upto-all (slotHolds noMajor) 16 none-well; current = refl; empty = refl; start = or-true (c .any) })
+none-sound c =
+    is-sound c noMajor (record { slots = upto-all (slotHolds noMajor) 16 none-well; current = refl; empty = refl; start = or-true (c .any) })
 
 -- and a record at a later count keeps it, and the shape
 module _ (c : Clock) (m : Major) (d : ℕ) (mag : Bool) (g w : ℕ)
-    (e : majorListed c m ≡ true) (z : Shaped m) (above : c .any ≡ true → c .last < d) (hg : g ≤ 7) where
+    (e : majorSound c m ≡ true) (z : Shaped m) (above : c .any ≡ true → c .last < d) (hg : g ≤ 7) where
   abbrev held-in : Bool → Major
   held-in t = cond t m noMajor
 
@@ -132,10 +132,10 @@ module _ (c : Clock) (m : Major) (d : ℕ) (mag : Bool) (g w : ℕ)
       go true = refl
       go false = refl
 
-  pub step-listed : majorListed (accepted d) (stepMajor m d mag g w .next) ≡ true
-  step-listed =
-      subst⁻¹ (λ (n : Major). majorListed (accepted d) n ≡ true) next-is
-      (is-listed (accepted d) _ (keeps-into (held-in (continues m d)) d (room (continues m d) refl) g w hg mag))
+  pub step-sound : majorSound (accepted d) (stepMajor m d mag g w .next) ≡ true
+  step-sound =
+      subst⁻¹ (λ (n : Major). majorSound (accepted d) n ≡ true) next-is
+      (is-sound (accepted d) _ (keeps-into (held-in (continues m d)) d (room (continues m d) refl) g w hg mag))
 
   pub step-shaped : Shaped (stepMajor m d mag g w .next)
   step-shaped = subst⁻¹ Shaped next-is (shaped-into (held-in (continues m d)) d (room (continues m d) refl) g w hg mag)
@@ -151,7 +151,7 @@ all-zero : (number slots mags : ℕ) (ranges words : List ℕ) → number ≡ 0 
 all-zero number slots mags ranges words a b c d e = rw (a, b, c, d, e)
 
 -- until something is accepted there is none
-pub unstarted : (c : Clock) (m : Major) → majorListed c m ≡ true → Shaped m → c .any ≡ false → m ≡ noMajor
+pub unstarted : (c : Clock) (m : Major) → majorSound c m ≡ true → Shaped m → c .any ≡ false → m ≡ noMajor
 unfolding noSlot
 unstarted c m e z n =
     let f = slots-of c m e in

@@ -1,4 +1,4 @@
 pub mod Major
-pub mod List
+pub mod Soundness
 pub mod Place
 pub mod Shape

@@ -1,10 +1,10 @@
 // The open major frame: what a record makes of it, what it reports when it closes, and its part of the state list (01, "Subcom and
 // major frame", "Joining accumulations", "Numbers a refused record gets"). No buffer is touched here.
-mod list;
+mod soundness;
 mod steps;
 
 use buffers::Work;
-pub use list::is_listed;
+pub use soundness::is_sound;
 pub use steps::no_major;
 pub use steps::no_slot_work;
 pub use steps::report;

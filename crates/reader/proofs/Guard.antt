@@ -17,10 +17,10 @@ use Rattle.record.specs.Rules.{rules}
 use Rattle.carriage.specs.Carriage.{types, cells, place, carrier}
 use Rattle.carriage.proofs.EachCell.{place-cell, carrier-place, had-is}
 use Rattle.accumulation.specs.Accumulation.{joins}
-use Rattle.accumulation.specs.List.{framesAmong}
+use Rattle.accumulation.specs.Soundness.{framesAmong}
 use Rattle.accumulation.specs.declared.Accumulation.{Accumulation}
 use Rattle.accumulation.proofs.Facts.{frames, types-rise}
-use Rattle.state.specs.List.{listed}
+use Rattle.state.specs.Soundness.{sound}
 use Rattle.state.specs.Deciding.{Input, fieldsOf, countAt, stateHolds, readerRules, numberOf, decidedAs, decidedOf}
 use Rattle.state.specs.declared.State.{State}
 use Rattle.state.specs.declared.deciding.Decided.{Decided}
@@ -28,7 +28,7 @@ use Rattle.state.proofs.Facts.{facts}
 use Rattle.state.proofs.Numbers.{exactly}
 use Rattle.state.proofs.Told.{science-type}
 use Rattle.reader.specs.Buffers.{Buffers, worked}
-use Rattle.reader.specs.Guard.{carriesCell, cellHeld, alreadyHeld, typeOf, joinsOpen, guardHolds, guardedRules, guardedNumber, guardedOf, unlisted}
+use Rattle.reader.specs.Guard.{carriesCell, cellHeld, alreadyHeld, typeOf, joinsOpen, guardHolds, guardedRules, guardedNumber, guardedOf, unsound}
 use Rattle.reader.specs.Guard.{CellsByMark, ByMark, CantHit, CanHit, Is13, SameStep, No13}
 use Rattle.reader.specs.Steps.{input, stepped}
 
@@ -87,7 +87,7 @@ free a u d f e = go (bitSet (a .held) u) refl
     go true s = absurd (omega (arith, types-rise a u d f e u s))
     go false s = refl
 
-among : (s : State) → listed s ≡ true → framesAmong (s .accumulation) ≡ true
+among : (s : State) → sound s ≡ true → framesAmong (s .accumulation) ≡ true
 among s e = frames (s .clock) (s .accumulation) (facts s e .accumulation) .among
 
 pub cant-hit : CantHit
@@ -101,16 +101,16 @@ cant-hit s e b r = by-mark i ∙ go (carriesScience (fieldsOf i .kind)) (joinsOp
     go true false q = refl
     go false j q = refl
 
-hits : (c : Bool) (a : Accumulation) (u d : ℕ) → c ≡ true → a ≡ unlisted → u ≡ 6 → d ≡ 101
+hits : (c : Bool) (a : Accumulation) (u d : ℕ) → c ≡ true → a ≡ unsound → u ≡ 6 → d ≡ 101
     → not (c && (joins a u d && bitSet (a .held) u)) ≡ false
 unfolding joins
 hits c a u d p q r s = rw (p, q, r, s)
 
 pub can-hit : CanHit
 unfolding framesAmong highest
-can-hit i a c u d = (go (listed (i .state)) refl, by-mark i ∙ hits _ (i .state .accumulation) _ _ c a u d)
+can-hit i a c u d = (go (sound (i .state)) refl, by-mark i ∙ hits _ (i .state .accumulation) _ _ c a u d)
   where
-    go : (b : Bool) → listed (i .state) ≡ b → b ≡ false
+    go : (b : Bool) → sound (i .state) ≡ b → b ≡ false
     go true e = sym (among (i .state) e) ∙ ap framesAmong a
     go false e = refl
 
@@ -119,9 +119,9 @@ unfolding holdsIn guardedRules readerRules rules ofPart
 is-13 i = refl
 
 -- rule 1 stands before the guard
-passes : (i : Input) → allHold readerRules i ≡ true → listed (i .state) ≡ true
+passes : (i : Input) → allHold readerRules i ≡ true → sound (i .state) ≡ true
 unfolding allHold readerRules stateHolds
-passes i e = two (i .sized) (listed (i .state)) (two (i .sized && listed (i .state)) _ e .0) .1
+passes i e = two (i .sized) (sound (i .state)) (two (i .sized && sound (i .state)) _ e .0) .1
 
 module _ (s : State) (b : Buffers) (r : List ℕ) where
   abbrev i : Input

@@ -15,7 +15,7 @@ use Rattle.major.specs.Major.{majorUnreported, slotOf, continues}
 use Rattle.snapshot.specs.Snapshot as snapshot
 use Rattle.snapshot.specs.declared.PacketWork.{PacketWork}
 use Rattle.state.specs.Closed.{nothingClosed}
-use Rattle.state.specs.List.{listed}
+use Rattle.state.specs.Soundness.{sound}
 use Rattle.state.specs.Deciding.{Input, fieldsOf, countAt, readerRules, numberOf, refusal, decidedOf, answerNumber}
 use Rattle.state.specs.Ending.{unended, endedOf, endingNumber}
 use Rattle.state.specs.Keeping.{Sound}
@@ -205,9 +205,9 @@ module _ (s : State) (b b′ : Buffers) where
     -- a refused finish changes nothing
     pub finish-untouched : 0 < endingNumber (x .ending) → Untouched (x .state) (x .closed)
     unfolding endedOf
-    finish-untouched h = go (sized b && listed s) refl
+    finish-untouched h = go (sized b && sound s) refl
       where
-        go : (t : Bool) → (sized b && listed s) ≡ t → Untouched (x .state) (x .closed)
+        go : (t : Bool) → (sized b && sound s) ≡ t → Untouched (x .state) (x .closed)
         go true t = let n : endingNumber (x .ending) ≡ 0 = is .number ∙ rw t in absurd (omega arith)
         go false t =
             let q : endedOf s (sized b) ≡ unended s = rw t in

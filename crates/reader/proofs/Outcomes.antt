@@ -19,7 +19,7 @@ use Rattle.carriage.specs.Carriage.{types}
 use Rattle.cells.specs.Laying.{frameType}
 use Rattle.bursts.specs.Bursts.{burstSize, snapshotSize}
 use Rattle.snapshot.specs.declared.PacketWork.{PacketWork}
-use Rattle.state.specs.List.{listed}
+use Rattle.state.specs.Soundness.{sound}
 use Rattle.state.specs.Deciding.{Input, fieldsOf, numberOf, refusal, decidedOf, DecidedIs}
 use Rattle.state.specs.Ending.{unended, ending, endedOf, endNumber, EndedIs}
 use Rattle.state.specs.declared.State.{State}
@@ -168,10 +168,10 @@ module _ (s : State) (b : Buffers) where
     sized-so : (f : Ended → Bool) → f (unended s) ≡ false → f x ≡ true
         → Sizes b
     unfolding endedOf
-    sized-so f e h = go (sized b && listed s) refl (sym (ap f ended-so) ∙ h)
+    sized-so f e h = go (sized b && sound s) refl (sym (ap f ended-so) ∙ h)
       where
-        go : (z : Bool) → (sized b && listed s) ≡ z → f (cond z (ending s) (unended s)) ≡ true → Sizes b
-        go true z q = sizes b (two (sized b) (listed s) z .0)
+        go : (z : Bool) → (sized b && sound s) ≡ z → f (cond z (ending s) (unended s)) ≡ true → Sizes b
+        go true z q = sizes b (two (sized b) (sound s) z .0)
         go false z q = absurd (true≢false (sym q ∙ e))
 
     -- what closes, copies into a buffer of its own size

@@ -15,7 +15,7 @@ use Rattle.record.specs.Layout.{packetBytes}
 use Rattle.carriage.specs.Carriage.{types, cells, rowOf, runsOf, someHas}
 use Rattle.accumulation.specs.Accumulation.{joins}
 use Rattle.accumulation.specs.declared.Accumulation.{Accumulation}
-use Rattle.state.specs.List.{listed}
+use Rattle.state.specs.Soundness.{sound}
 use Rattle.state.specs.Deciding.{Input, fieldsOf, countAt, readerRules, decidedAs, answerNumber}
 use Rattle.state.specs.declared.State.{State}
 use Rattle.state.specs.declared.deciding.Decided.{Decided}
@@ -74,16 +74,16 @@ ByMark = (i : Input) → guardHolds i ≡ not (carriesScience (fieldsOf i .kind)
 
 -- "from a state that passes rule 1 rule 13 can't hit": with any buffers and any record
 abbrev pub CantHit : Type 0
-CantHit = (s : State) → listed s ≡ true → (b : Buffers) (r : List ℕ) → guardHolds (input s b r) ≡ true
+CantHit = (s : State) → sound s ≡ true → (b : Buffers) (r : List ℕ) → guardHolds (input s b r) ≡ true
 
 -- from one that breaks the list it can: type 6 held, 5 the last, and type 6 comes at the next count
-abbrev pub unlisted : Accumulation
-unlisted = record { first = 100; held = 2 ^ 6; «last_type» = 5; «last_count» = 100; others = 0 }
+abbrev pub unsound : Accumulation
+unsound = record { first = 100; held = 2 ^ 6; «last_type» = 5; «last_count» = 100; others = 0 }
 
 abbrev pub CanHit : Type 0
 CanHit =
-    (i : Input) → i .state .accumulation ≡ unlisted → carriesScience (fieldsOf i .kind) ≡ true → typeOf i ≡ 6 → countAt i ≡ 101
-    → (listed (i .state) ≡ false) × (guardHolds i ≡ false)
+    (i : Input) → i .state .accumulation ≡ unsound → carriesScience (fieldsOf i .kind) ≡ true → typeOf i ≡ 6 → countAt i ≡ 101
+    → (sound (i .state) ≡ false) × (guardHolds i ≡ false)
 
 -- the guard is rule 13 of the rules with it
 abbrev pub Is13 : Type 0

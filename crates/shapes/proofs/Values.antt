@@ -8,7 +8,7 @@ use native.Mathlib.Omega.{arith}
 use lib.Dec.{eqb, leb}
 use borrow.Author.Tests.{eqb-true, leb-true}
 use Rattle.prelude.proofs.Conds.{two}
-use Rattle.state.specs.List.{fresh}
+use Rattle.state.specs.Soundness.{fresh}
 use Rattle.state.specs.declared.State.{State}
 use Rattle.shapes.specs.Frames.{flag}
 use Rattle.shapes.specs.States.{isState, stateIn, stateOut}

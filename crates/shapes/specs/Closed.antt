@@ -1,8 +1,8 @@
 -- What a call closed, and the reports, as C has them (include/lpmag.h, "structs").
 -- Assumes nothing.
 use Prim.Native.Nat.{ℕ}
-use Rattle.accumulation.specs.declared.Gap.{Gap}
-use Rattle.accumulation.specs.declared.Gap.the-variants.{Opens, Joins, Neither}
+use Rattle.accumulation.specs.declared.GapDecision.{GapDecision}
+use Rattle.accumulation.specs.declared.GapDecision.the-variants.{Opens, Joins, Neither}
 use Rattle.snapshot.specs.declared.SnapshotReport.{SnapshotReport}
 use Rattle.state.specs.declared.closed.Closed.{Closed}
 use Rattle.state.specs.declared.deciding.Taken.{Taken}
@@ -14,7 +14,7 @@ use Rattle.shapes.specs.declared.closed.CReport.{CReport}
 use Rattle.shapes.specs.declared.closed.CFed.{CFed}
 
 -- LPMAG_OPENS, LPMAG_JOINS, LPMAG_NEITHER
-unfoldable pub gapNumber : Gap → ℕ
+unfoldable pub gapNumber : GapDecision → ℕ
 gapNumber Opens = 0
 gapNumber Joins = 1
 gapNumber Neither = 2

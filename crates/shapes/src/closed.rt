@@ -6,7 +6,7 @@ use crate::fields::fields_out;
 use crate::frames::CMajor;
 use crate::frames::major_out;
 use crate::states::flag_of;
-use accumulation::Gap;
+use accumulation::GapDecision;
 use snapshot::SnapshotReport;
 use state::Closed;
 use state::Taken;
@@ -55,13 +55,13 @@ pub struct CFed {
     pub closed: CClosed,
 }
 
-fn gap_number(gap: Gap) -> u8
+fn gap_number(gap: GapDecision) -> u8
     ensures { λ n. ⌜ n ≡ gapNumber gap ⌝ }
 {
     match gap {
-        Gap::Opens => 0,
-        Gap::Joins => 1,
-        Gap::Neither => 2,
+        GapDecision::Opens => 0,
+        GapDecision::Joins => 1,
+        GapDecision::Neither => 2,
     }
 }
 

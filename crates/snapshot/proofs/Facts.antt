@@ -14,7 +14,7 @@ use Rattle.bursts.specs.Bursts.{firstPacket, packets}
 use Rattle.clock.specs.Clock.{begun}
 use Rattle.clock.specs.declared.Clock.{Clock}
 use Rattle.snapshot.specs.Snapshot.{isOpen, packetType, isPart, markOf, joins, extends, renews, passes, stepPacket, stepSnapshot}
-use Rattle.snapshot.specs.List.{packetsAmong, lastHighest, firstFits, noneOpen, snapshotListed}
+use Rattle.snapshot.specs.Soundness.{packetsAmong, lastHighest, firstFits, noneOpen, snapshotSound}
 use Rattle.snapshot.specs.Place.{isQuiet, leaves, steppedAt}
 use Rattle.snapshot.specs.declared.Snapshot.{Snapshot}
 use Rattle.snapshot.specs.declared.PacketStep.{PacketStep}
@@ -27,8 +27,8 @@ pub record Packets (c : Clock) (s : Snapshot) : Type 0 where
   pub shut : noneOpen s ≡ true
   pub start : begun c (s .held) ≡ true
 
-pub packets-in : (c : Clock) (s : Snapshot) → snapshotListed c s ≡ true → Packets c s
-unfolding snapshotListed
+pub packets-in : (c : Clock) (s : Snapshot) → snapshotSound c s ≡ true → Packets c s
+unfolding snapshotSound
 packets-in c s e =
     let p = two (packetsAmong s) _ e in
     let q = two (lastHighest s) _ (p .1) in
@@ -36,9 +36,9 @@ packets-in c s e =
     let t = two (noneOpen s) _ (r .1) in
     record { among = p .0; highest-last = q .0; fits = r .0; shut = t .0; start = t .1 }
 
-pub is-listed : (c : Clock) (s : Snapshot) → Packets c s → snapshotListed c s ≡ true
-unfolding snapshotListed
-is-listed c s f = rw (f .among, f .highest-last, f .fits, f .shut) (f .start)
+pub is-sound : (c : Clock) (s : Snapshot) → Packets c s → snapshotSound c s ≡ true
+unfolding snapshotSound
+is-sound c s f = rw (f .among, f .highest-last, f .fits, f .shut) (f .start)
 
 pub below-20 : (s : Snapshot) → packetsAmong s ≡ true → s .held < 2 ^ packets
 unfolding packetsAmong
@@ -137,7 +137,7 @@ next-below s d code h = go (isPart code) (joins s code) refl
     go false j e = omega arith
 
 -- a snapshot that passes is in place
-pub step-is : (c k : Clock) (s : Snapshot) (d one two : ℕ) → snapshotListed c s ≡ true → steppedAt k s d one two ≡ stepSnapshot k s d one two
+pub step-is : (c k : Clock) (s : Snapshot) (d one two : ℕ) → snapshotSound c s ≡ true → steppedAt k s d one two ≡ stepSnapshot k s d one two
 unfolding steppedAt
 step-is c k s d one two e = rw (packets-in c s e .among)
 

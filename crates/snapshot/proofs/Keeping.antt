@@ -15,9 +15,9 @@ use Rattle.clock.specs.Clock.{accepted}
 use Rattle.clock.specs.declared.Clock.{Clock}
 use Rattle.clock.proofs.Laws.{not-begun, has-begun}
 use Rattle.snapshot.specs.Snapshot.{noSnapshot, packetType, isPart, markOf, cuts, follows, cutIf, joins, started, stepPacket, stepSnapshot}
-use Rattle.snapshot.specs.List.{packetsAmong, lastHighest, firstFits, noneOpen, snapshotListed}
+use Rattle.snapshot.specs.Soundness.{packetsAmong, lastHighest, firstFits, noneOpen, snapshotSound}
 use Rattle.snapshot.specs.declared.Snapshot.{Snapshot}
-use Rattle.snapshot.proofs.Facts.{Packets, packets-in, is-listed, first-last, none-zero, part-from, mark-small, below-mark, by}
+use Rattle.snapshot.proofs.Facts.{Packets, packets-in, is-sound, first-last, none-zero, part-from, mark-small, below-mark, by}
 
 -- a snapshot with a packet's mark beside lower ones, its first count being at most d, that is the last accepted
 marks-keep : (code d first held : ℕ) → isPart code ≡ true → first ≤ d → held < 2 ^ markOf code
@@ -76,28 +76,28 @@ packet-keeps s d code f = go (isPart code) (joins s code) refl refl
     go false j p q = cut-keeps (accepted d) s (cuts code) d f (first-last (accepted d) s (f .fits))
 
 -- none open passes with every clock
-pub none-listed : (c : Clock) → snapshotListed c noSnapshot ≡ true
+pub none-sound : (c : Clock) → snapshotSound c noSnapshot ≡ true
 unfolding packetsAmong lastHighest firstFits noneOpen
-none-listed c =
+none-sound c =
     let fits = le-leb 0 (c .last) (omega arith) in
-    is-listed c noSnapshot (record { among = refl; highest-last = refl; fits = fits; shut = refl; start = or-true (c .any) })
+    is-sound c noSnapshot (record { among = refl; highest-last = refl; fits = fits; shut = refl; start = or-true (c .any) })
 
 -- and a record at a later count keeps it
-pub step-listed : (c : Clock) (s : Snapshot) (d one two : ℕ) → snapshotListed c s ≡ true → (c .any ≡ true → c .last < d)
-    → snapshotListed (accepted d) (stepSnapshot c s d one two .next) ≡ true
+pub step-sound : (c : Clock) (s : Snapshot) (d one two : ℕ) → snapshotSound c s ≡ true → (c .any ≡ true → c .last < d)
+    → snapshotSound (accepted d) (stepSnapshot c s d one two .next) ≡ true
 unfolding stepSnapshot
-step-listed c s d one two e above =
+step-sound c s d one two e above =
     let f = packets-in c s e in
     let k = cut-keeps c s (not (follows c d)) d f (first-before c s d f above) in
     let t = cutIf (not (follows c d)) s in
-    is-listed (accepted d) _ (packet-keeps (stepPacket t d one .next) d two (packet-keeps t d one k))
+    is-sound (accepted d) _ (packet-keeps (stepPacket t d one .next) d two (packet-keeps t d one k))
 
 -- until something is accepted there is none
 all-zero : (first held type : ℕ) (cut : Bool) → first ≡ 0 → held ≡ 0 → type ≡ 0 → cut ≡ false
     → _≡_ {A = Snapshot} (record { first = first; held = held; «last_type» = type; cut = cut }) noSnapshot
 all-zero first held type cut a b c d = rw (a, b, c, d)
 
-pub unstarted : (c : Clock) (s : Snapshot) → snapshotListed c s ≡ true → c .any ≡ false → s ≡ noSnapshot
+pub unstarted : (c : Clock) (s : Snapshot) → snapshotSound c s ≡ true → c .any ≡ false → s ≡ noSnapshot
 unstarted c s e n =
     let f = packets-in c s e in
     let h = not-begun c (s .held) (f .start) n in

@@ -1,3 +1,3 @@
 pub mod Snapshot
-pub mod List
+pub mod Soundness
 pub mod Place

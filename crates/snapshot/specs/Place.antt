@@ -7,7 +7,7 @@ use lib.Dec.{eqb}
 use Rattle.buffers.specs.Working.{noWork}
 use Rattle.clock.specs.declared.Clock.{Clock}
 use Rattle.snapshot.specs.Snapshot.{unreported, packetWork, stepSnapshot}
-use Rattle.snapshot.specs.List.{packetsAmong}
+use Rattle.snapshot.specs.Soundness.{packetsAmong}
 use Rattle.snapshot.specs.declared.Snapshot.{Snapshot}
 use Rattle.snapshot.specs.declared.SnapshotStep.{SnapshotStep}
 

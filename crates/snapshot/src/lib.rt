@@ -1,11 +1,11 @@
 // The open snapshot of a burst: which packets join it, what a record makes of it, what it reports when it closes, and its part of the
 // state list (02, request 2). No buffer is touched here.
-mod list;
 mod packets;
+mod soundness;
 mod steps;
 
 use buffers::Work;
-pub use list::is_listed;
+pub use soundness::is_sound;
 pub use steps::no_packet_work;
 pub use steps::no_snapshot;
 pub use steps::report;

@@ -8,8 +8,8 @@ use lib.Dec.{eqb}
 use borrow.Author.Tests.{eqb-true, eqb-false}
 use Rattle.prelude.proofs.Conds.{two}
 use Rattle.accumulation.specs.Accumulation.{isOpen, clearsFor, laysFor}
-use Rattle.accumulation.specs.declared.Gap.{Gap}
-use Rattle.accumulation.specs.declared.Gap.the-variants.{Neither}
+use Rattle.accumulation.specs.declared.GapDecision.{GapDecision}
+use Rattle.accumulation.specs.declared.GapDecision.the-variants.{Neither}
 use Rattle.accumulation.proofs.Closing as accumulation
 use Rattle.accumulation.proofs.Closing.{FramesClose, frames-report, no-frames, by-gap}
 use Rattle.major.specs.Major.{majorOpen}
@@ -20,7 +20,7 @@ use Rattle.snapshot.specs.Snapshot.{packetWork}
 use Rattle.snapshot.proofs.Closing as snapshot
 use Rattle.snapshot.proofs.Closing.{SnapshotsClose, no-snapshots}
 use Rattle.state.specs.Closed.{nothingClosed, noWorks}
-use Rattle.state.specs.List.{listed}
+use Rattle.state.specs.Soundness.{sound}
 use Rattle.state.specs.Deciding.{Input, numberOf, acceptance, decidedOf}
 use Rattle.state.specs.Keeping.{Sound}
 use Rattle.state.specs.Ending.{ending, unended, endedOf}
@@ -58,7 +58,7 @@ step-closes i = go (eqb (numberOf i) 0) refl
 
 pub end-closes : (s : State) (sized : Bool) → Closes (endedOf s sized .works) (endedOf s sized .finished .closed)
 unfolding endedOf
-end-closes s sized = go (sized && listed s)
+end-closes s sized = go (sized && sound s)
   where
     go : (t : Bool) → Closes (cond t (ending s) (unended s) .works) (cond t (ending s) (unended s) .finished .closed)
     go true = record {
@@ -81,7 +81,7 @@ pub record Ends (w : Works) : Type 0 where
 
 pub end-clears : (s : State) (sized : Bool) → Ends (endedOf s sized .works)
 unfolding endedOf
-end-clears s sized = go (sized && listed s)
+end-clears s sized = go (sized && sound s)
   where
     go : (t : Bool) → Ends (cond t (ending s) (unended s) .works)
     go true = record {
@@ -106,15 +106,15 @@ end-clears s sized = go (sized && listed s)
     }
 
 -- once finished nothing is open: a second finish is done too, changes nothing and closes nothing
-pub second-end : (s : State) (sized : Bool) → Sound s → (sized && listed s) ≡ true
+pub second-end : (s : State) (sized : Bool) → Sound s → (sized && sound s) ≡ true
     → endedOf (endedOf s sized .finished .state) sized
     ≡ record { finished = record { ending = Done; state = endedOf s sized .finished .state; closed = nothingClosed }; works = noWorks }
 unfolding endedOf
 second-end s sized h e =
-    let k : (sized && listed (ending s .finished .state)) ≡ true = rw (two sized (listed s) e .0) (ended-sound s h .passes) in
+    let k : (sized && sound (ending s .finished .state)) ≡ true = rw (two sized (sound s) e .0) (ended-sound s h .passes) in
     rw (e, k)
 
-abbrev taken-gap : Answer → Gap
+abbrev taken-gap : Answer → GapDecision
 taken-gap (Refused n) = Neither
 taken-gap (Accepted t) = t .gap
 

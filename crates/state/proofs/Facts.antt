@@ -6,44 +6,44 @@ use Prim.Native.Nat.{ℕ, _<_}
 use Rattle.prelude.proofs.Conds.{two}
 use Rattle.record.specs.Frame.{carriesMag, carriesScience, firstBurst}
 use Rattle.record.specs.declared.Record.{Record}
-use Rattle.clock.specs.Clock.{isLater, dated, clockListed}
+use Rattle.clock.specs.Clock.{isLater, dated, clockSound}
 use Rattle.clock.proofs.Laws.{dated-above}
-use Rattle.accumulation.specs.List.{accumulationListed}
+use Rattle.accumulation.specs.Soundness.{accumulationSound}
 use Rattle.accumulation.specs.Place as accumulation
 use Rattle.accumulation.specs.declared.AccumulationStep.{AccumulationStep}
 use Rattle.accumulation.proofs.Facts.{step-is}
-use Rattle.major.specs.List.{majorListed}
+use Rattle.major.specs.Soundness.{majorSound}
 use Rattle.major.specs.Place as major
 use Rattle.major.specs.declared.MajorStep.{MajorStep}
 use Rattle.major.proofs.Facts.{is-free}
-use Rattle.snapshot.specs.List.{snapshotListed}
+use Rattle.snapshot.specs.Soundness.{snapshotSound}
 use Rattle.snapshot.specs.Place as snapshot
 use Rattle.snapshot.specs.declared.SnapshotStep.{SnapshotStep}
 use Rattle.snapshot.proofs.Facts as snapshots
-use Rattle.state.specs.List.{listed}
+use Rattle.state.specs.Soundness.{sound}
 use Rattle.state.specs.Deciding.{inAccumulation, inMajor, inSnapshot, Ready}
 use Rattle.state.specs.declared.State.{State}
 
 -- the parts of the list, each by itself
-pub record Listed (s : State) : Type 0 where
-  pub clock : clockListed (s .clock) ≡ true
-  pub accumulation : accumulationListed (s .clock) (s .accumulation) ≡ true
-  pub major : majorListed (s .clock) (s .major) ≡ true
-  pub snapshot : snapshotListed (s .clock) (s .snapshot) ≡ true
+pub record SoundParts (s : State) : Type 0 where
+  pub clock : clockSound (s .clock) ≡ true
+  pub accumulation : accumulationSound (s .clock) (s .accumulation) ≡ true
+  pub major : majorSound (s .clock) (s .major) ≡ true
+  pub snapshot : snapshotSound (s .clock) (s .snapshot) ≡ true
 
-pub facts : (s : State) → listed s ≡ true → Listed s
-unfolding listed
+pub facts : (s : State) → sound s ≡ true → SoundParts s
+unfolding sound
 facts s e =
-    let p = two (clockListed (s .clock)) _ e in
-    let q = two (accumulationListed (s .clock) (s .accumulation)) _ (p .1) in
-    let r = two (majorListed (s .clock) (s .major)) _ (q .1) in
+    let p = two (clockSound (s .clock)) _ e in
+    let q = two (accumulationSound (s .clock) (s .accumulation)) _ (p .1) in
+    let r = two (majorSound (s .clock) (s .major)) _ (q .1) in
     record { clock = p .0; accumulation = q .0; major = r .0; snapshot = r .1 }
 
-pub is-listed : (s : State) → Listed s → listed s ≡ true
-unfolding listed
-is-listed s f = rw (f .clock, f .accumulation, f .major) (f .snapshot)
+pub is-sound : (s : State) → SoundParts s → sound s ≡ true
+unfolding sound
+is-sound s f = rw (f .clock, f .accumulation, f .major) (f .snapshot)
 
-pub ready : (s : State) (f : Record) (d : ℕ) → listed s ≡ true → isLater (s .clock) f ≡ true → d ≡ dated (s .clock) f → f .«frame_type» < 64
+pub ready : (s : State) (f : Record) (d : ℕ) → sound s ≡ true → isLater (s .clock) f ≡ true → d ≡ dated (s .clock) f → f .«frame_type» < 64
     → Ready s f d
 ready s f d e l q h = record { passes = e; above = λ a. rw q (dated-above (s .clock) f l a); kind = h }
 

@@ -19,7 +19,7 @@ use Rattle.record.specs.declared.Record.{Record}
 use Rattle.mag.specs.Samples.{range, magSized, RangeIs}
 use Rattle.mag.specs.declared.unpacking.Unpacked.{Unpacked}
 use Rattle.mag.specs.declared.unpacking.Unpacked.the-variants as unpacked
-use Rattle.state.specs.List.{listed}
+use Rattle.state.specs.Soundness.{sound}
 use Rattle.state.specs.Deciding.{Input, fieldsOf, countAt, magRange, stateHolds, clockHolds, turnHolds, readerRules, numberOf}
 use Rattle.state.specs.Deciding.{refusal, acceptance, decidedOf, answerNumber, DecidedIs, decidedBy}
 use Rattle.state.specs.declared.State.{State}
@@ -69,11 +69,11 @@ module _ (s : State) (sized : Bool) (r : List ℕ) (x : Decided) where
   }
 
   -- rule 1
-  pub unlisted : (sized && listed s) ≡ false → x ≡ refusal s 1 → DecidedIs s sized r x
+  pub unsound : (sized && sound s) ≡ false → x ≡ refusal s 1 → DecidedIs s sized r x
   unfolding stateHolds
-  unlisted e q = is-refused 1 (number-is handed ∙ rw e) (omega arith) q
+  unsound e q = is-refused 1 (number-is handed ∙ rw e) (omega arith) q
 
-  module _ (ok : (sized && listed s) ≡ true) where
+  module _ (ok : (sized && sound s) ≡ true) where
     -- rules 2 to 11
     pub record-refused : (n : ℕ) → broken r ≡ n → 0 < n → x ≡ refusal s n → DecidedIs s sized r x
     unfolding stateHolds

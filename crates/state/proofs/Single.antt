@@ -1,4 +1,4 @@
--- One outcome: any two that a promise allows are equal. `listed`, `no_major` and `fresh` promise an equation (`one` of
+-- One outcome: any two that a promise allows are equal. `sound`, `no_major` and `fresh` promise an equation (`one` of
 -- prelude/Single).
 -- Assumes nothing.
 use mathlib.Core.Path.{_≡_}

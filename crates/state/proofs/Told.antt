@@ -22,7 +22,7 @@ use Rattle.major.proofs.Closing as major
 use Rattle.bursts.specs.Bursts.{burstSize, snapshotSize}
 use Rattle.snapshot.specs.Snapshot.{isPart, stepSnapshot}
 use Rattle.snapshot.proofs.Closing as snapshot
-use Rattle.state.specs.List.{listed}
+use Rattle.state.specs.Soundness.{sound}
 use Rattle.state.specs.Deciding.{Input, fieldsOf, countAt, stateHolds, clockHolds, turnHolds, numberOf, refusal, acceptance, decidedOf}
 use Rattle.state.specs.declared.deciding.Decided.{Decided}
 use Rattle.state.proofs.Numbers.{number-is, accepted-is, refused-is}
@@ -30,7 +30,7 @@ use Rattle.state.proofs.Numbers.{number-is, accepted-is, refused-is}
 -- a record that no rule refuses passes each
 pub record Passed (i : Input) : Type 0 where
   pub sized : i .sized ≡ true
-  pub listed : listed (i .state) ≡ true
+  pub sound : sound (i .state) ≡ true
   pub record-passes : broken (i .bytes) ≡ 0
   pub later : clockHolds i ≡ true
   pub turn : turnHolds i ≡ true
@@ -54,8 +54,8 @@ all-pass i e =
     let b = nought (broken (i .bytes)) _ (a .1) in
     let c = past (clockHolds i) 12 _ (λ z. omega arith) (b .1) in
     let d = past (turnHolds i) 14 0 (λ z. omega arith) (c .1) in
-    let s = two (i .sized) (listed (i .state)) (a .0) in
-    record { sized = s .0; listed = s .1; record-passes = b .0; later = c .0; turn = d .0 }
+    let s = two (i .sized) (sound (i .state)) (a .0) in
+    record { sized = s .0; sound = s .1; record-passes = b .0; later = c .0; turn = d .0 }
 
 pub passed-size : (i : Input) → Passed i → length (i .bytes) ≡ size
 passed-size i p = opened.sized (i .bytes) (p .record-passes)

@@ -20,7 +20,7 @@ use Rattle.major.specs.Major.{stepMajor}
 use Rattle.major.specs.declared.MajorStep.{MajorStep}
 use Rattle.snapshot.specs.Snapshot.{stepSnapshot}
 use Rattle.snapshot.specs.declared.SnapshotStep.{SnapshotStep}
-use Rattle.state.specs.List.{listed}
+use Rattle.state.specs.Soundness.{sound}
 use Rattle.state.specs.Closed.{nothingClosed, noWorks}
 use Rattle.state.specs.declared.State.{State}
 use Rattle.state.specs.declared.deciding.Answer.{Answer}
@@ -45,7 +45,7 @@ magRange i = range (magBytes (packetBytes (i .bytes)))
 
 -- 1: "a lent buffer isn't of its size, or the state breaks the list below"
 unfoldable pub stateHolds : Input → Bool
-stateHolds i = i .sized && listed (i .state)
+stateHolds i = i .sized && sound (i .state)
 
 -- 12
 unfoldable pub clockHolds : Input → Bool
@@ -128,6 +128,6 @@ decidedBy s f range =
 
 -- what the private function asks that accepts a record at count d
 pub record Ready (s : State) (f : Record) (d : ℕ) : Type 0 where
-  pub passes : listed s ≡ true
+  pub passes : sound s ≡ true
   pub above : s .clock .any ≡ true → s .clock .last < d
   pub kind : f .«frame_type» < 64

@@ -8,7 +8,7 @@ use Rattle.accumulation.specs.Accumulation.{noAccumulation, isOpen, reported}
 use Rattle.major.specs.Major.{noMajor, majorOpen, majorReported, slotWork}
 use Rattle.snapshot.specs.Snapshot as snapshot
 use Rattle.snapshot.specs.Snapshot.{noSnapshot, packetWork}
-use Rattle.state.specs.List.{listed}
+use Rattle.state.specs.Soundness.{sound}
 use Rattle.state.specs.Closed.{nothingClosed, noWorks}
 use Rattle.state.specs.declared.State.{State}
 use Rattle.state.specs.declared.ending.Ended.{Ended}
@@ -17,7 +17,7 @@ use Rattle.state.specs.declared.ending.Ending.the-variants.{Refused, Don
 
 -- "Finish can give 1 only."
 abbrev pub endNumber : State → Bool → ℕ
-endNumber s sized = cond (sized && listed s) 0 1
+endNumber s sized = cond (sized && sound s) 0 1
 
 abbrev pub unended : State → Ended
 unended s = record { finished = record { ending = Refused 1; state = s; closed = nothingClosed }; works = noWorks }
@@ -45,7 +45,7 @@ ending s = record {
 }
 
 unfoldable pub endedOf : State → Bool → Ended
-endedOf s sized = cond (sized && listed s) (ending s) (unended s)
+endedOf s sized = cond (sized && sound s) (ending s) (unended s)
 
 -- 01's number of each case
 unfoldable pub endingNumber : Ending → ℕ

@@ -4,14 +4,14 @@
 use mathlib.Core.Bool.{Bool, true}
 use mathlib.Core.Path.{_≡_}
 use Rattle.major.specs.Shape.{Shaped}
-use Rattle.state.specs.List.{listed}
+use Rattle.state.specs.Soundness.{sound}
 use Rattle.state.specs.Deciding.{Input, decidedOf}
 use Rattle.state.specs.Ending.{endedOf}
 use Rattle.state.specs.declared.State.{State}
 
 -- a state that passes the list, of the shape that its type gives it
 pub record Sound (s : State) : Type 0 where
-  pub passes : listed s ≡ true
+  pub passes : sound s ≡ true
   pub shaped : Shaped (s .major)
 
 abbrev pub StepKeeps : Input → Type 0

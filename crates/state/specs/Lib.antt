@@ -1,4 +1,4 @@
-pub mod List
+pub mod Soundness
 pub mod Closed
 pub mod Deciding
 pub mod Ending

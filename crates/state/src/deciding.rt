@@ -6,16 +6,16 @@ ghost use Prim.Native.Nat.{_<_};
 ghost use lib.ListN.{length};
 ghost use Rattle.record.specs.Layout.{size, packetBytes, magBytes};
 ghost use Rattle.mag.specs.Samples.{range};
-ghost use Rattle.state.specs.List.{listed};
+ghost use Rattle.state.specs.Soundness.{sound};
 ghost use Rattle.state.specs.Deciding.{refusal, acceptance, decidedBy, Ready, DecidedIs};
 use crate::State;
 use crate::closed::Closed;
 use crate::closed::Works;
 use crate::closed::no_works;
 use crate::closed::nothing_closed;
-use crate::listed;
+use crate::is_sound;
 use accumulation::Accumulation;
-use accumulation::Gap;
+use accumulation::GapDecision;
 use clock::Arrival;
 use clock::Clock;
 use mag::Unpacked;
@@ -25,7 +25,7 @@ use record::Record;
 // An accepted record: its fields, among them its kind, and the gap decision.
 pub struct Taken {
     pub fields: Record,
-    pub gap: Gap,
+    pub gap: GapDecision,
 }
 
 pub enum Answer {
@@ -130,7 +130,7 @@ fn accept(state: State, f: Record, d: u64, range: u8) -> Decided
 
 // A record that passes rules 1 to 11: rules 12 and 14.
 fn decide_by(state: State, f: Record, range: u8) -> Decided
-    requires { ⌜ (listed state ≡ true) × (f .«frame_type» < 64) ⌝ }
+    requires { ⌜ (sound state ≡ true) × (f .«frame_type» < 64) ⌝ }
     ensures { λ x. ⌜ x ≡ decidedBy state f range ⌝ }
 {
     let arrival = clock::arrival_of(state.clock, f.count);
@@ -148,7 +148,7 @@ fn decide_on(state: State, sized: bool, r: &[u8]) -> Decided
     if !sized {
         return refused(state, 1);
     }
-    if !listed(state) {
+    if !is_sound(state) {
         return refused(state, 1);
     }
     let contents = record::fields(r);

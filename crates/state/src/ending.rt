@@ -6,7 +6,7 @@ use crate::closed::Closed;
 use crate::closed::Works;
 use crate::closed::no_works;
 use crate::closed::nothing_closed;
-use crate::listed;
+use crate::is_sound;
 use buffers::closing_work;
 use buffers::no_work;
 
@@ -48,7 +48,7 @@ pub fn end(state: State, sized: bool) -> Ended
     if !sized {
         return not_ended(state);
     }
-    if !listed(state) {
+    if !is_sound(state) {
         return not_ended(state);
     }
     let a = state.accumulation;

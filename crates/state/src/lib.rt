@@ -1,7 +1,7 @@
 // The reader's state by value, the list of what it must be, and what a record decides: no buffer is touched here (01, "Joining
 // accumulations", "Numbers a refused record gets").
 ghost use mathlib.Core.Path.{_≡_};
-ghost use Rattle.state.specs.List.{fresh, listed};
+ghost use Rattle.state.specs.Soundness.{fresh, sound};
 
 mod closed;
 mod deciding;
@@ -44,15 +44,15 @@ pub fn fresh() -> State
 }
 
 // Does the state pass the list? Each part tests its own; the major frame first, so that its arrays aren't held over the other tests.
-pub fn listed(state: State) -> bool
-    ensures { λ b. ⌜ b ≡ listed state ⌝ }
+pub fn is_sound(state: State) -> bool
+    ensures { λ b. ⌜ b ≡ sound state ⌝ }
 {
-    if !major::is_listed(state.clock, state.major) {
+    if !major::is_sound(state.clock, state.major) {
         return false;
     }
-    if !clock::is_listed(state.clock) {
+    if !clock::is_sound(state.clock) {
         return false;
     }
-    accumulation::is_listed(state.clock, state.accumulation)
-        & snapshot::is_listed(state.clock, state.snapshot)
+    accumulation::is_sound(state.clock, state.accumulation)
+        & snapshot::is_sound(state.clock, state.snapshot)
 }

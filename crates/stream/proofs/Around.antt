@@ -7,7 +7,7 @@ use Prim.Native.Nat.{ℕ}
 use native.Mathlib.Omega.{arith}
 use lib.ListN.{length}
 use Rattle.prelude.specs.Every.{Every}
-use Rattle.state.specs.List.{fresh}
+use Rattle.state.specs.Soundness.{fresh}
 use Rattle.gathering.specs.Lists.{Pairwise, those}
 use Rattle.stream.specs.Running.{run, traceOf, ClosedAccumulation, accumulations}
 use Rattle.stream.specs.Sending.{Fate, kept, removed, Sends, fed, ExtraRefused, Kept, keptOf, reals}

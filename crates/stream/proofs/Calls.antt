@@ -26,7 +26,7 @@ use Rattle.state.specs.declared.State.{State}
 use Rattle.accumulation.specs.declared.Accumulation.{Accumulation}
 use Rattle.accumulation.specs.declared.AccumulationReport.{AccumulationReport}
 use Rattle.accumulation.specs.declared.AccumulationStep.{AccumulationStep}
-use Rattle.accumulation.specs.declared.Gap.the-variants.{Joins}
+use Rattle.accumulation.specs.declared.GapDecision.the-variants.{Joins}
 use Rattle.state.specs.declared.deciding.Answer.the-variants.{Accepted}
 use Rattle.state.specs.declared.deciding.Decided.{Decided}
 use Rattle.major.specs.declared.Major.{Major}

@@ -8,7 +8,7 @@ use Rattle.prelude.specs.Every.{Every}
 use Rattle.mag.specs.Samples.{samplesSize}
 use Rattle.bursts.specs.Bursts.{burstSize}
 use Rattle.carriage.specs.Carriage.{scienceSize}
-use Rattle.state.specs.List.{fresh}
+use Rattle.state.specs.Soundness.{fresh}
 use Rattle.state.proofs.Keeping.{fresh-sound}
 use Rattle.reader.specs.Buffers.{Buffers}
 use Rattle.gathering.specs.Lists.{Pairwise, flat}

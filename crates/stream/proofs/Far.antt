@@ -12,7 +12,7 @@ use Rattle.record.specs.Contents.{recordOf}
 use Rattle.clock.specs.Clock.{circle, farthest, later, isLater, accepted}
 use Rattle.clock.specs.declared.Clock.{Clock}
 use Rattle.clock.proofs.Laws.{Follows, follows-none, follows-last}
-use Rattle.state.specs.List.{fresh}
+use Rattle.state.specs.Soundness.{fresh}
 use Rattle.state.specs.Deciding.{stateHolds, clockHolds, numberOf}
 use Rattle.state.proofs.Numbers.{number-is}
 use Rattle.reader.specs.Steps.{input}

@@ -1,6 +1,6 @@
 -- Demand 3, whole.
 -- Assumes nothing.
-use Rattle.state.specs.List.{fresh}
+use Rattle.state.specs.Soundness.{fresh}
 use Rattle.stream.specs.Running.{Reader, traceOf}
 use Rattle.stream.specs.Sending.{fed}
 use Rattle.stream.specs.Law.{DemandLaw, Keeps, Meets}

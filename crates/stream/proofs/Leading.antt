@@ -8,7 +8,7 @@ use native.Mathlib.Omega.{arith}
 use Rattle.prelude.specs.Every.{Every}
 use Rattle.clock.specs.Clock.{circle, ownOf, accepted, unset}
 use Rattle.clock.proofs.Laws.{follows-none, follows-last}
-use Rattle.state.specs.List.{fresh}
+use Rattle.state.specs.Soundness.{fresh}
 use Rattle.reader.specs.Buffers.{Buffers}
 use Rattle.gathering.specs.Lists.{Neighbours}
 use Rattle.gathering.specs.Laying.{Rising}

@@ -6,7 +6,7 @@ use mathlib.Core.Logic.{_⊎_}
 use Prim.Native.Nat.{ℕ, _≤_, _*_}
 use lib.ListN.{length}
 use Rattle.carriage.specs.Carriage.{scienceSize}
-use Rattle.state.specs.List.{fresh}
+use Rattle.state.specs.Soundness.{fresh}
 use Rattle.reader.specs.Buffers.{Buffers}
 use Rattle.gathering.specs.Lists.{Some}
 use Rattle.gathering.proofs.Those.{rising-those}

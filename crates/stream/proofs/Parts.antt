@@ -28,7 +28,7 @@ use Rattle.clock.specs.declared.Clock.{Clock}
 use Rattle.clock.proofs.Laws.{Follows, stands}
 use Rattle.major.specs.Major.{frameSamples}
 use Rattle.major.specs.declared.SlotWork.{SlotWork}
-use Rattle.state.specs.List.{listed, fresh}
+use Rattle.state.specs.Soundness.{sound, fresh}
 use Rattle.state.specs.Deciding.{stateHolds, clockHolds, turnHolds, numberOf, decidedOf, answerNumber}
 use Rattle.state.specs.Ending.{endedOf}
 use Rattle.state.specs.Keeping.{Sound}
@@ -155,7 +155,7 @@ behind y rs = run (y .result .state) (y .left) rs
 pub ends : (s : State) (b : Buffers) → Ready s b → Parts [] [] s b
 unfolding traceOf fed KeptAccepted accumulations majors snapshots gather eventsFrom endedOf
 ends s b h =
-    let t : (sized b && listed s) ≡ true = rw (is-sized b (h .sized)) (h .sound .passes) in
+    let t : (sized b && sound s) ≡ true = rw (is-sized b (h .sized)) (h .sound .passes) in
     record {
       accepted = finished s (sized b) ∙ rw t;
       cells = rw t (cells-out (s .accumulation) (b .openCells) (b .finishedCells));

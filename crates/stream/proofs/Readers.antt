@@ -24,9 +24,9 @@ use Rattle.accumulation.specs.Accumulation.{joins, started}
 use Rattle.clock.specs.declared.Clock.{Clock}
 use Rattle.clock.proofs.Laws.{Follows, follows-none, follows-last}
 use Rattle.state.specs.Deciding.{numberOf, answerNumber}
-use Rattle.state.specs.List.{fresh}
+use Rattle.state.specs.Soundness.{fresh}
 use Rattle.accumulation.specs.declared.AccumulationReport.{AccumulationReport}
-use Rattle.accumulation.specs.declared.Gap.the-variants.{Joins}
+use Rattle.accumulation.specs.declared.GapDecision.the-variants.{Joins}
 use Rattle.state.specs.declared.deciding.Answer.{Answer}
 use Rattle.state.specs.declared.State.{State}
 use Rattle.state.proofs.Told.{all-pass, passed-size}

@@ -7,7 +7,7 @@ use Prim.Native.Nat.{ℕ}
 use lib.Dec.{eqb}
 use borrow.Author.Tests.{eqb-true, eqb-false}
 use Rattle.prelude.specs.Every.{Every}
-use Rattle.state.specs.List.{listed}
+use Rattle.state.specs.Soundness.{sound}
 use Rattle.state.specs.Deciding.{Input, numberOf, acceptance, decidedOf, answerNumber}
 use Rattle.state.specs.Ending.{ending, unended, endedOf, endNumber, endingNumber}
 use Rattle.state.specs.Keeping.{Sound}
@@ -31,7 +31,7 @@ answered i = go (eqb (numberOf i) 0) refl
 
 pub finished : (s : State) (size : Bool) → endingNumber (endedOf s size .finished .ending) ≡ endNumber s size
 unfolding endedOf endingNumber
-finished s size = go (size && listed s)
+finished s size = go (size && sound s)
   where
     go : (t : Bool) → endingNumber (cond t (ending s) (unended s) .finished .ending) ≡ cond t 0 1
     go true = refl

@@ -9,7 +9,7 @@ use native.Mathlib.Omega.{arith}
 use Rattle.prelude.specs.Marks.{bitSet}
 use Rattle.prelude.specs.Every.{Every}
 use Rattle.carriage.specs.Carriage.{types}
-use Rattle.state.specs.List.{fresh}
+use Rattle.state.specs.Soundness.{fresh}
 use Rattle.gathering.specs.Lists.{Some, Pairwise, Neighbours, those}
 use Rattle.stream.specs.Running.{Trace, run, traceOf, ClosedAccumulation, accumulations}
 use Rattle.stream.specs.Sending.{Fate, kept, Sends, fed, ExtraRefused, Kept, keptOf, reals}

@@ -4,7 +4,7 @@ use mathlib.Core.Path.{_≡_}
 use mathlib.Core.List.{List, [], _∷_}
 use Prim.Native.Nat.{ℕ}
 use Rattle.listing.specs.Lines.{framesHeld}
-use Rattle.state.specs.List.{fresh}
+use Rattle.state.specs.Soundness.{fresh}
 use Rattle.reader.specs.Buffers.{Buffers}
 use Rattle.stream.specs.Running.{run, ClosedAccumulation, accumulations}
 use Rattle.stream.specs.Sending.{sentCount, Fate, kept, removed, fed, Stream}

@@ -5,7 +5,7 @@ use mathlib.Core.Bool.{true}
 use mathlib.Core.List.{List, [], _∷_}
 use Prim.Native.Nat.{ℕ, _-_}
 use Rattle.clock.specs.Clock.{farthest}
-use Rattle.state.specs.List.{fresh}
+use Rattle.state.specs.Soundness.{fresh}
 use Rattle.reader.specs.Buffers.{Buffers, sized}
 use Rattle.stream.specs.Running.{run, answers}
 use Rattle.stream.specs.Sending.{Fate, Sends, Unwrapped, fed, Kept, unspoiled}

@@ -6,7 +6,7 @@ use mathlib.Core.Bool.{true}
 use mathlib.Core.List.{List}
 use Prim.Native.Nat.{ℕ}
 use Rattle.prelude.specs.Every.{Every}
-use Rattle.state.specs.List.{fresh}
+use Rattle.state.specs.Soundness.{fresh}
 use Rattle.state.specs.declared.State.{State}
 use Rattle.reader.specs.Buffers.{Buffers, sized}
 use Rattle.stream.specs.Running.{Reader, Trace, traceOf, StepAllowed, EndAllowed, Allowed}

@@ -9,9 +9,9 @@ use Rattle.prelude.specs.Every.{Every}
 use Rattle.listing.specs.Lines.{framesHeld}
 use Rattle.accumulation.specs.Accumulation.{unreported}
 use Rattle.state.specs.Deciding.{answerNumber}
-use Rattle.state.specs.List.{fresh}
+use Rattle.state.specs.Soundness.{fresh}
 use Rattle.state.specs.declared.State.{State}
-use Rattle.accumulation.specs.declared.Gap.the-variants.{Joins}
+use Rattle.accumulation.specs.declared.GapDecision.the-variants.{Joins}
 use Rattle.state.specs.declared.deciding.Answer.{Answer}
 use Rattle.state.specs.declared.deciding.Answer.the-variants.{Accepted}
 use Rattle.state.specs.declared.deciding.Taken.{Taken}

@@ -4,7 +4,7 @@ use mathlib.Core.Path.{_≡_}
 use mathlib.Core.List.{List}
 use Prim.Native.Nat.{ℕ, _<_}
 use Rattle.prelude.specs.Every.{Every}
-use Rattle.state.specs.List.{fresh}
+use Rattle.state.specs.Soundness.{fresh}
 use Rattle.reader.specs.Buffers.{Buffers}
 use Rattle.gathering.specs.Lists.{Neighbours}
 use Rattle.stream.specs.Running.{run, accumulations}

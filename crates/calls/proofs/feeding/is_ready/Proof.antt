@@ -25,8 +25,8 @@ returns-2 c =
 state-in-requires : tie.Need-state-in-requires
 state-in-requires c κs = search needs
 
-listed-requires : tie.Need-listed-requires
-listed-requires c κs = search needs
+is-sound-requires : tie.Need-is-sound-requires
+is-sound-requires c κs = search needs
 
 returns-3 : tie.Need-returns-3
 unfolding readyBy
@@ -35,7 +35,7 @@ returns-3 c =
     let k = i .before in
     let a = k .before .args in
     rw (held (k .is-state .ensures) (i .if1 .left), not-false (a .sized) (c .before .before .if2 .left))
-    (rw (c .before .state-in .ensures) at (c .listed .ensures))
+    (rw (c .before .state-in .ensures) at (c .is-sound .ensures))
 
 pub is-ready-spec : {M : Type 1} → statement M
-is-ready-spec = tie.close (tie.spec is-state-requires returns returns-2 state-in-requires listed-requires returns-3)
+is-ready-spec = tie.close (tie.spec is-state-requires returns returns-2 state-in-requires is-sound-requires returns-3)

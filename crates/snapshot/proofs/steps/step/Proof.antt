@@ -4,7 +4,7 @@ use mathlib.Core.Path.{sym, _∙_}
 use borrow.Author.Tests.{lt-ltb, le-ltb}
 use Rattle.snapshot.specs.Snapshot.{stepSnapshot}
 use Rattle.snapshot.specs.Place.{steppedAt}
-use Rattle.snapshot.specs.List.{packetsAmong}
+use Rattle.snapshot.specs.Soundness.{packetsAmong}
 use Rattle.snapshot.proofs.Facts.{quiet-leaves, next-below}
 use native.Mathlib.Omega.{arith}
 use borrow.Author.Needs.{needs}

@@ -6,9 +6,9 @@ use denote.Ref.{now}
 use Rattle.prelude.proofs.Conds.{held, fails}
 use Rattle.record.proofs.Opened.{sized}
 use Rattle.record.proofs.Told.{fields-told, number-told}
-use Rattle.state.specs.List.{listed}
+use Rattle.state.specs.Soundness.{sound}
 use Rattle.state.specs.Deciding.{decidedBy}
-use Rattle.state.proofs.Numbers.{unlisted, record-refused, record-decided, type-below, above-0, off}
+use Rattle.state.proofs.Numbers.{unsound, record-refused, record-decided, type-below, above-0, off}
 use borrow.Author.Needs.{needs}
 use Rattle.state.proofs.deciding.decide_on.Statement.{statement}
 use Rattle.state.proofs.deciding.decide_on.Tie as tie
@@ -19,10 +19,10 @@ refused-requires c κs = search needs
 returns : tie.Need-returns
 returns c =
     let a = c .before .before .before .args in
-    unlisted (a .state) (a .sized) (now (a .r)) _ (off (a .sized) (listed (a .state)) (c .before .if1 .taken)) (c .refused .ensures)
+    unsound (a .state) (a .sized) (now (a .r)) _ (off (a .sized) (sound (a .state)) (c .before .if1 .taken)) (c .refused .ensures)
 
-listed-requires : tie.Need-listed-requires
-listed-requires c κs = search needs
+is-sound-requires : tie.Need-is-sound-requires
+is-sound-requires c κs = search needs
 
 refused-requires-2 : tie.Need-refused-requires-2
 refused-requires-2 c κs = search needs
@@ -31,8 +31,8 @@ returns-2 : tie.Need-returns-2
 returns-2 c =
     let l = c .before .before in
     let a = l .before .before .before .args in
-    unlisted (a .state) (a .sized) (now (a .r)) _
-    (rw (not-false (a .sized) (l .before .if1 .left), fails (l .listed .ensures) (c .before .if2 .taken))) (c .refused2 .ensures)
+    unsound (a .state) (a .sized) (now (a .r)) _
+    (rw (not-false (a .sized) (l .before .if1 .left), fails (l .is-sound .ensures) (c .before .if2 .taken))) (c .refused2 .ensures)
 
 fields-requires : tie.Need-fields-requires
 fields-requires c κs = search needs
@@ -52,7 +52,7 @@ decide-by-requires c κs =
     let l = f .before .before in
     let r = now (l .before .before .before .args .r) in
     let t = fields-told r (f .fields .result) (f .fields .ensures) _ (c .before .before .contents .given .1) in
-    (held (l .listed .ensures) (f .before .if2 .left), rw (t .1) (type-below r))
+    (held (l .is-sound .ensures) (f .before .if2 .left), rw (t .1) (type-below r))
 
 enum-known-contents-2 : tie.Need-enum-known-contents-2
 enum-known-contents-2 c = search needs
@@ -67,7 +67,7 @@ returns-3 c =
     let a = l .before .before .before .args in
     let r = now (a .r) in
     let t = fields-told r (f .fields .result) (f .fields .ensures) _ (c .before .before .before .contents .given .1) in
-    record-decided (a .state) (a .sized) r _ (rw (not-false (a .sized) (l .before .if1 .left), held (l .listed .ensures) (f .before .if2 .left)))
+    record-decided (a .state) (a .sized) r _ (rw (not-false (a .sized) (l .before .if1 .left), held (l .is-sound .ensures) (f .before .if2 .left)))
     (t .0) (c .decide-by .ensures ∙ ap₂ (decidedBy (a .state)) (t .1) (c .before .range-in .ensures))
 
 returns-4 : tie.Need-returns-4
@@ -77,7 +77,7 @@ returns-4 c =
     let a = l .before .before .before .args in
     let r = now (a .r) in
     let t = number-told r (f .fields .result) (f .fields .ensures) _ (c .before .before .contents2 .given .1) in
-    record-refused (a .state) (a .sized) r _ (rw (not-false (a .sized) (l .before .if1 .left), held (l .listed .ensures) (f .before .if2 .left)))
+    record-refused (a .state) (a .sized) r _ (rw (not-false (a .sized) (l .before .if1 .left), held (l .is-sound .ensures) (f .before .if2 .left)))
     _ (sym (t .0)) (above-0 (t .1)) (c .refused3 .ensures)
 
 pub decide-on-spec : {M : Type 1} → statement M
@@ -86,7 +86,7 @@ decide-on-spec =
     (tie.spec
     refused-requires
     returns
-    listed-requires
+    is-sound-requires
     refused-requires-2
     returns-2
     fields-requires

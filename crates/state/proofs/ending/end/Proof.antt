@@ -2,7 +2,7 @@
 -- Assumes nothing.
 use borrow.Author.Tests.{not-false}
 use Rattle.prelude.proofs.Conds.{held, fails}
-use Rattle.state.specs.List.{listed}
+use Rattle.state.specs.Soundness.{sound}
 use Rattle.state.proofs.Ends.{is-unended, is-ended}
 use Rattle.state.proofs.Numbers.{off}
 use borrow.Author.Needs.{needs}
@@ -15,10 +15,10 @@ not-ended-requires c κs = search needs
 returns : tie.Need-returns
 returns c =
     let a = c .before .before .args in
-    is-unended (a .state) (a .sized) _ (off (a .sized) (listed (a .state)) (c .before .if1 .taken)) (c .not-ended .ensures)
+    is-unended (a .state) (a .sized) _ (off (a .sized) (sound (a .state)) (c .before .if1 .taken)) (c .not-ended .ensures)
 
-listed-requires : tie.Need-listed-requires
-listed-requires c κs = search needs
+is-sound-requires : tie.Need-is-sound-requires
+is-sound-requires c κs = search needs
 
 not-ended-requires-2 : tie.Need-not-ended-requires-2
 not-ended-requires-2 c κs = search needs
@@ -28,7 +28,7 @@ returns-2 c =
     let l = c .before .before in
     let a = l .before .before .args in
     is-unended (a .state) (a .sized) _
-    (rw (not-false (a .sized) (l .before .if1 .left), fails (l .listed .ensures) (c .before .if2 .taken))) (c .not-ended2 .ensures)
+    (rw (not-false (a .sized) (l .before .if1 .left), fails (l .is-sound .ensures) (c .before .if2 .taken))) (c .not-ended2 .ensures)
 
 no-accumulation-requires : tie.Need-no-accumulation-requires
 no-accumulation-requires c κs = search needs
@@ -84,7 +84,7 @@ returns-3 c =
     let l = none .before .before .before .before .before in
     let a = l .before .before .before .args in
     is-ended (a .state) (a .sized) _
-    (rw (not-false (a .sized) (l .before .before .if1 .left), held (l .before .listed .ensures) (l .if2 .left)))
+    (rw (not-false (a .sized) (l .before .before .if1 .left), held (l .before .is-sound .ensures) (l .if2 .left)))
     (rw (
       c .no-packet-work2 .ensures,
       c .before .no-work .ensures,
@@ -108,7 +108,7 @@ end-spec =
     (tie.spec
     not-ended-requires
     returns
-    listed-requires
+    is-sound-requires
     not-ended-requires-2
     returns-2
     no-accumulation-requires

@@ -1,0 +1,71 @@
+-- `major::soundness::slots_hold` meets its contract. The loop has tested the first i slots.
+-- Assumes nothing.
+use mathlib.Core.Path.{_≡_, refl, sym, ap, _∙_}
+use mathlib.Core.Bool.{Bool, true, false, _&&_}
+use Prim.Native.Nat.{ℕ, _≤_, _+_, _-_}
+use native.Mathlib.Numerals.{add-one}
+use Rattle.prelude.specs.Upto.{both, upto}
+use Rattle.major.specs.Soundness.{slotHolds, slotsHold}
+use native.Mathlib.Omega.{arith}
+use borrow.Author.Needs.{needs}
+use Rattle.major.proofs.soundness.slots_hold.Statement.{statement}
+use Rattle.major.proofs.soundness.slots_hold.Tie as tie
+
+one-more : (f : ℕ → Bool) (i : ℕ) (b all : Bool) → b ≡ f i → all ≡ upto f i → (b && all) ≡ upto f (i + 1)
+unfolding both
+one-more f i true all e h = rw (add-one i, sym e) h
+one-more f i false all e h = rw (add-one i, sym e)
+
+abbrev Inv-loop : tie.InvT-loop
+Inv-loop m all₀ i₀ all i = (i ≤ 16) × (all ≡ upto (slotHolds m) i)
+
+abbrev μ-loop : tie.MeasureT-loop
+μ-loop m all₀ i₀ all i = 16 - i
+
+loop-holds : tie.Need-loop-holds Inv-loop μ-loop
+loop-holds c = (omega arith, refl)
+
+element-copy-out-slot-holds : tie.Need-element-copy-out-slot-holds Inv-loop μ-loop
+element-copy-out-slot-holds c = search needs
+
+mul-slot-holds : tie.Need-mul-slot-holds Inv-loop μ-loop
+mul-slot-holds c = search needs
+
+element-copy-out-slot-holds-2 : tie.Need-element-copy-out-slot-holds-2 Inv-loop μ-loop
+element-copy-out-slot-holds-2 c = search needs
+
+slot-holds-requires : tie.Need-slot-holds-requires Inv-loop μ-loop
+slot-holds-requires c κs = search needs
+
+add-i : tie.Need-add-i Inv-loop μ-loop
+add-i c = search needs
+
+loop-less : tie.Need-loop-less Inv-loop μ-loop
+loop-less c = search needs
+
+loop-again : tie.Need-loop-again Inv-loop μ-loop
+unfolding slotHolds
+loop-again c =
+    let l = c .before .before .before .before in
+    let f = slotHolds (l .before .args .t1) in
+    (search needs, one-more f (l .loop .i) (c .slot-holds .result) (l .loop .all) (c .slot-holds .ensures) (l .loop .inv .1))
+
+returns : tie.Need-returns Inv-loop μ-loop
+unfolding slotsHold
+returns c = let l = c .before in let e : l .loop .i ≡ 16 = omega arith in l .loop .inv .1 ∙ ap (upto (slotHolds (l .before .args .t1))) e
+
+pub slots-hold-spec : {M : Type 1} → statement M
+slots-hold-spec =
+    tie.close
+    (tie.spec
+    Inv-loop
+    μ-loop
+    loop-holds
+    element-copy-out-slot-holds
+    mul-slot-holds
+    element-copy-out-slot-holds-2
+    slot-holds-requires
+    add-i
+    loop-less
+    loop-again
+    returns)
