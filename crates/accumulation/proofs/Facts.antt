@@ -16,7 +16,8 @@ use Rattle.clock.specs.declared.Clock.{Clock}
 use Rattle.clock.proofs.Laws.{has-begun}
 use Rattle.accumulation.specs.Accumulation.{isOpen, gap, fewest, most, joins, stepAccumulation}
 use Rattle.accumulation.specs.Soundness.{countsBelow, framesAmong, framesFit, othersFit, noneOpen, accumulationSound}
-use Rattle.accumulation.specs.Place.{After, inPlace, steppedAt}
+use Rattle.accumulation.specs.Place.{inPlace, steppedAt}
+use Rattle.accumulation.specs.inner.Joining.{After}
 use Rattle.accumulation.specs.declared.Accumulation.{Accumulation}
 
 -- the clauses, each by itself

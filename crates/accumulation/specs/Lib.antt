@@ -1,3 +1,4 @@
 pub mod Accumulation
 pub mod Soundness
 pub mod Place
+pub mod inner

@@ -1,9 +1,8 @@
 -- What the functions of this room answer where what they are handed is out of place: so they ask nothing of their caller. In every
 -- state that passes the list, and for every later record, it is in place (`in-place` in proofs/Facts.antt).
 -- Assumes nothing.
-use Prim.Native.Nat.{ℕ, _+_, _^_, _<_}
+use Prim.Native.Nat.{ℕ, _+_, _^_}
 use mathlib.Core.Bool.{Bool, cond, _&&_, _||_}
-use mathlib.Core.Path.{_≡_}
 use lib.Dec.{eqb, ltb}
 use Rattle.buffers.specs.Working.{noWork}
 use Rattle.accumulation.specs.Accumulation.{unreported, stepAccumulation}
@@ -21,7 +20,3 @@ leaves a = record { gap = Neither; next = a; report = unreported; work = noWork 
 
 unfoldable pub steppedAt : Accumulation → Bool → ℕ → ℕ → AccumulationStep
 steppedAt a science u d = cond (inPlace a u d) (stepAccumulation a science u d) (leaves a)
-
--- What private functions ask: count d lies after the last frame of an open accumulation and the other frames since
-abbrev pub After : Accumulation → ℕ → Type 0
-After a d = (a .held ≡ 0 → ⊥) → a .«last_count» + a .others < d

@@ -2,7 +2,8 @@
 ghost use mathlib.Core.Path.{_≡_};
 ghost use Prim.Native.Nat.{_-_, _≤_};
 ghost use Rattle.accumulation.specs.Accumulation.{joins};
-ghost use Rattle.accumulation.specs.Place.{After, inPlace};
+ghost use Rattle.accumulation.specs.Place.{inPlace};
+ghost use Rattle.accumulation.specs.inner.Joining.{After};
 use crate::Accumulation;
 use record::FRAME_MARKS;
 

@@ -2,7 +2,8 @@
 ghost use mathlib.Core.Path.{_≡_};
 ghost use Prim.Native.Nat.{_^_, _<_};
 ghost use Rattle.accumulation.specs.Accumulation.{noAccumulation, unreported, reported, passes, extends, renews};
-ghost use Rattle.accumulation.specs.Place.{After, leaves, steppedAt};
+ghost use Rattle.accumulation.specs.Place.{leaves, steppedAt};
+ghost use Rattle.accumulation.specs.inner.Joining.{After};
 use crate::Accumulation;
 use crate::AccumulationReport;
 use crate::AccumulationStep;

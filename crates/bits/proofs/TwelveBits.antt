@@ -11,7 +11,7 @@ use lib.ListN.{length, getD}
 use borrow.Author.Tests.{eqb-true, eqb-false, leb-true, le-leb, lt-leb, not-true, not-false}
 use Rattle.bits.specs.Numbers.{Order, least, most, join, number, twelve, twelveIn}
 use Rattle.bits.specs.Twelve.{Bytes, front, back, fromBytes, TwelveLaw}
-use Rattle.bits.specs.Parts.{PartsOf}
+use Rattle.bits.specs.inner.Parts.{PartsOf}
 use Rattle.bits.proofs.Numbers.{below, own, split, number-front, number-back, number-byte, same-byte}
 
 module _ (o : Order) (b : List ℕ) (h : ℕ) where

@@ -4,7 +4,7 @@ ghost use Prim.Native.Nat.{_+_, _*_, _/_, _%_, _<_};
 ghost use lib.Dec.{leb};
 ghost use mathlib.Core.Bool.{cond};
 ghost use Rattle.bits.specs.Numbers.{least, most, twelveIn};
-ghost use Rattle.bits.specs.Parts.{PartsOf};
+ghost use Rattle.bits.specs.inner.Parts.{PartsOf};
 use crate::wide;
 
 // Whether the number at place k lies wholly in n bytes. It multiplies nothing, since k may be any number.

@@ -1,6 +1,6 @@
 // Buffers: one copied into another of its size, one laid into another from a place on where it has room, one cleared; and what is
 // to be done to an open buffer and the finished one beside it.
-mod numbers;
+mod signed;
 mod work;
 
 ghost use mathlib.Core.Path.{_≡_};
@@ -9,8 +9,8 @@ ghost use lib.ListN.{length, take, drop};
 ghost use Rattle.buffers.specs.Copying.{copied};
 ghost use Rattle.buffers.specs.Laying.{patch, hasRoom, laid};
 ghost use Rattle.buffers.specs.Clearing.{cleared};
-pub use numbers::clear_numbers;
-pub use numbers::copy_numbers;
+pub use signed::clear_numbers;
+pub use signed::copy_numbers;
 pub use work::Work;
 pub use work::closing_work;
 pub use work::no_work;

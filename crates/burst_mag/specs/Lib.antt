@@ -1,1 +1,2 @@
 pub mod Seconds
+pub mod inner

@@ -13,7 +13,8 @@ use Rattle.mag.specs.declared.unpacking.Unpacked.{Unpacked}
 use Rattle.mag.specs.declared.unpacking.Unpacked.the-variants.{Range, NoSuchPlace}
 use Rattle.burst_mag.specs.Seconds.{hasMag, hasSamples, SamplesLaid}
 use Rattle.c_answers.specs.Answers.{nowhere}
-use Rattle.c_bursts.specs.Seconds.{magWhich, burstRange, BurstSamplesGiven, rangeNumber}
+use Rattle.c_bursts.specs.Seconds.{magWhich, burstRange, BurstSamplesGiven}
+use Rattle.c_bursts.specs.inner.Answers.{rangeNumber}
 
 -- the number of an answer
 numbered : (t : Bool) (m : List ℕ) (u : Unpacked) → RangeIs t m u → rangeNumber u ≡ cond t (range m) nowhere

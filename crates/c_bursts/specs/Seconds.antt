@@ -8,8 +8,6 @@ use lib.Dec.{eqb, leb}
 use lib.IntN.{ℤ}
 use lib.ListN.{length}
 use Rattle.mag.specs.Samples.{samplesSize, range, samples}
-use Rattle.mag.specs.declared.unpacking.Unpacked.{Unpacked}
-use Rattle.mag.specs.declared.unpacking.Unpacked.the-variants.{Range, NoSuchPlace}
 use Rattle.burst_mag.specs.Seconds.{hasMag, magOf}
 use Rattle.c_answers.specs.Answers.{nowhere}
 
@@ -27,8 +25,3 @@ burstRange r which = cond (hasWhich r which) (range (magWhich r which)) nowhere
 pub record BurstSamplesGiven (r : List ℕ) (which : ℕ) (room : List ℤ) (n : ℕ) (room′ : List ℤ) : Type 0 where
   pub number : n ≡ cond (hasWhich r which && eqb (length room) samplesSize) (range (magWhich r which)) nowhere
   pub written : room′ ≡ cond (hasWhich r which && eqb (length room) samplesSize) (samples (magWhich r which)) room
-
--- A step of the code: the number of an answer. Only a private function promises this.
-abbrev pub rangeNumber : Unpacked → ℕ
-rangeNumber (Range n) = n
-rangeNumber NoSuchPlace = nowhere

@@ -23,7 +23,7 @@ use Rattle.shapes.specs.declared.closed.CClosed.{CClosed}
 use Rattle.shapes.specs.declared.closed.CReport.{CReport}
 use Rattle.shapes.specs.declared.closed.CFed.{CFed}
 use Rattle.calls.specs.Reading.{back, backClosed, handedBy, handed, handedEnd, handedClosed, StepGiven, FinishGiven}
-use Rattle.calls.specs.Handing.{notZero, numbered, handedAs}
+use Rattle.calls.specs.inner.Handing.{notZero, numbered, handedAs}
 use Rattle.calls.specs.Feeding.{ready, backFed, handedFed, FeedGiven}
 use Rattle.calls.specs.declared.stepping.CStepped.{CStepped}
 use Rattle.calls.specs.declared.stepping.CFinished.{CFinished}

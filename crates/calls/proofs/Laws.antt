@@ -16,7 +16,7 @@ use Rattle.state.specs.Deciding.{numberOf, decidedOf}
 use Rattle.state.specs.Ending.{endedOf, ending, unended}
 use Rattle.state.specs.Soundness.{sound}
 use Rattle.state.specs.declared.deciding.Decided.{Decided}
-use Rattle.state.proofs.Numbers.{refused-is}
+use Rattle.state.proofs.Decisions.{refused-is}
 use Rattle.reader.specs.Buffers.{Buffers, sized, worked}
 use Rattle.reader.specs.Steps.{input, stepped}
 use Rattle.shapes.specs.States.{isState, stateIn}

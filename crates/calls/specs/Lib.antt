@@ -1,5 +1,5 @@
 pub mod Contents
 pub mod Reading
-pub mod Handing
 pub mod Feeding
 pub mod Frames
+pub mod inner

@@ -2,7 +2,7 @@
 ghost use mathlib.Core.Path.{_≡_};
 ghost use Rattle.reader.specs.Buffers.{buffers};
 ghost use Rattle.calls.specs.Reading.{handedClosed, StepGiven, FinishGiven};
-ghost use Rattle.calls.specs.Handing.{notZero, handedAs};
+ghost use Rattle.calls.specs.inner.Handing.{notZero, handedAs};
 use shapes::CClosed;
 use shapes::CReport;
 use shapes::CState;

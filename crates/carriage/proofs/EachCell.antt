@@ -12,7 +12,7 @@ use Rattle.prelude.specs.Upto.{both, upto}
 use Rattle.prelude.proofs.Upto.{both-left, both-right, upto-at}
 use Rattle.carriage.specs.Carriage.{samplesIn, types, scienceSize, cells, threeD, rows, total, someHas, byteIn}
 use Rattle.carriage.specs.Carriage.{place, carrier, byteOf, Once, rowOf, runsOf, carries, none}
-use Rattle.carriage.specs.Steps.{restSize, restCell}
+use Rattle.carriage.specs.inner.Carriers.{restSize, restCell}
 use Rattle.carriage.proofs.Placed.{place-had, had-place, first-is, first-none}
 use Rattle.carriage.proofs.Finding.{sampleIn, inHalf, restType, typeOf, in-header, in-samples, in-three}
 

@@ -4,7 +4,7 @@ use mathlib.Core.Path.{_≡_}
 use mathlib.Core.Bool.{cond}
 use Prim.Native.Nat.{ℕ, _+_, _*_, _-_, _/_, _%_, _<_, _≤_}
 use lib.Dec.{ltb}
-use Rattle.carriage.specs.Steps.{halfSpinType}
+use Rattle.carriage.specs.inner.Carriers.{halfSpinType}
 use borrow.Author.Tests.{lt-ltb, le-ltb}
 
 -- of each sample, through the bins

@@ -1,3 +1,3 @@
 pub mod Carriage
-pub mod Numbers
-pub mod Steps
+pub mod RowNumbers
+pub mod inner

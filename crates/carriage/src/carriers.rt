@@ -2,7 +2,7 @@
 ghost use mathlib.Core.Path.{_≡_};
 ghost use Prim.Native.Nat.{_<_, _≤_};
 ghost use Rattle.carriage.specs.Carriage.{threeD, carrier};
-ghost use Rattle.carriage.specs.Steps.{halfSpinType, restSize, restCell};
+ghost use Rattle.carriage.specs.inner.Carriers.{halfSpinType, restSize, restCell};
 use crate::CELLS;
 use crate::THREE_D_AT;
 

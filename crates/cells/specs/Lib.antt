@@ -1,5 +1,5 @@
 pub mod Words
 pub mod Laying
-pub mod Runs
 pub mod Bytes
 pub mod Raw
+pub mod inner

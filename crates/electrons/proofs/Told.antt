@@ -19,7 +19,7 @@ use Rattle.cells.specs.declared.raw.Raw.the-variants as raw
 use Rattle.electrons.specs.Questions.{Asked, CountIs}
 use Rattle.electrons.specs.Questions.{hasSample, scalable, dividedBy, scaleKnown, sampleAsked, hasThree, threeAsked, headerAsked}
 use Rattle.electrons.specs.Meaning.{meaning}
-use Rattle.electrons.specs.Steps.{samplePlace, threePlace, scaleOf}
+use Rattle.electrons.specs.inner.Places.{samplePlace, threePlace, scaleOf}
 use Rattle.electrons.specs.declared.questions.Count.{Count}
 use Rattle.electrons.specs.declared.scale.Scale.{Scale}
 use Rattle.electrons.specs.declared.scale.Scale.the-variants.{Known, Unknown}

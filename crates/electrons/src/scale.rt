@@ -1,7 +1,7 @@
 // The pre-scale state of an energy bin's samples (01, "Counts"; 000, section 2.3.1).
 ghost use mathlib.Core.Path.{_≡_};
 ghost use Rattle.electrons.specs.Questions.{scalable};
-ghost use Rattle.electrons.specs.Steps.{scaleOf};
+ghost use Rattle.electrons.specs.inner.Places.{scaleOf};
 use cells::Raw;
 use counts::Divided;
 

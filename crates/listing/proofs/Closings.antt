@@ -20,7 +20,8 @@ use Rattle.state.specs.Soundness.{sound}
 use Rattle.state.specs.declared.State.{State}
 use Rattle.state.specs.declared.closed.Closed.{Closed}
 use Rattle.state.proofs.Facts.{facts}
-use Rattle.listing.specs.Text.{ascii, Put}
+use Rattle.listing.specs.Text.{ascii}
+use Rattle.listing.specs.inner.Putting.{Put}
 use Rattle.listing.specs.Lines.{wordSize, lineSize, lineOf, slotsHeld, samplesHeld, frameLine, majorLine, framesHeld, cellsHeld, accumLine}
 use Rattle.listing.specs.Lines.{packetsHeld, snapCellsHeld, snapLine, closedLines, closedSize}
 use Rattle.listing.proofs.Puts.{put-none, put-then, room-after}

@@ -9,7 +9,8 @@ use lib.Dec.{ltb}
 use lib.ListN.{length, set, take, drop, length-append, length-set, length-drop, drop-of-length-le}
 use lib.Seq.{take-all, drop-at, length-take-le, set-split}
 use borrow.Author.Tests.{lt-ltb, le-ltb, ltb-true, ltb-false}
-use Rattle.listing.specs.Decimal.{digit, digits, decimalIn, decimal, valueAfter, value, Spelled}
+use Rattle.listing.specs.Decimal.{digit, digits, decimalIn, decimal, valueAfter, value}
+use Rattle.listing.specs.inner.Putting.{Spelled}
 
 last-digit : (k n : ℕ) → 10 ≤ n → decimalIn (suc k) n ≡ decimalIn k (n / 10) ++ (digit (n % 10) ∷ [])
 last-digit k n h = rw (le-ltb n 10 h) refl

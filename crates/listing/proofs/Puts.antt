@@ -10,7 +10,8 @@ use lib.Seq.{length-take-le, take-at, drop-at, drop-drop, set-split}
 use borrow.Author.Tests.{le-leb, lt-leb}
 use Rattle.buffers.specs.Laying.{patch, laid}
 use Rattle.buffers.proofs.Patches.{laid-in, length-patch}
-use Rattle.listing.specs.Text.{Put, Written}
+use Rattle.listing.specs.Text.{Written}
+use Rattle.listing.specs.inner.Putting.{Put}
 
 -- a text laid over the end of another is laid over as one with it
 patch-then : (d : List ℕ) (at : ℕ) (s t : List ℕ) → at + length s ≤ length d → patch (patch d at s) (at + length s) t ≡ patch d at (s ++ t)

@@ -11,7 +11,8 @@ use lib.ListN.{length, getD, take, drop, length-append, List·getD-eq-default}
 use borrow.Author.Tests.{ltb-true, ltb-false}
 use Rattle.prelude.specs.Upto.{both}
 use Rattle.prelude.proofs.Upto.{both-left, both-right, upto-at}
-use Rattle.listing.specs.Text.{ascii, space, Put}
+use Rattle.listing.specs.Text.{ascii, space}
+use Rattle.listing.specs.inner.Putting.{Put}
 use Rattle.listing.specs.Decimal.{decimal}
 use Rattle.listing.specs.Refusals.{words, wordsOf, wordsSize, place, placeSize, refusalLine, refusalSize}
 use Rattle.listing.proofs.Puts.{put-none, put-then, room-after}

@@ -1,11 +1,9 @@
 -- Numbers as decimal digits.
 -- Assumes nothing.
-use Prim.Native.Nat.{ℕ, zero, suc, _+_, _-_, _*_, _/_, _%_, _<_}
+use Prim.Native.Nat.{ℕ, zero, suc, _+_, _-_, _*_, _/_, _%_}
 use mathlib.Core.Bool.{cond}
 use mathlib.Core.List.{List, [], _∷_, _++_}
-use mathlib.Core.Path.{_≡_}
 use lib.Dec.{ltb}
-use lib.ListN.{length, drop}
 
 -- the ASCII code of a number below 10
 abbrev pub digit : ℕ → ℕ
@@ -30,9 +28,3 @@ valueAfter m (d ∷ ds) = valueAfter (10 * m + (d - 48)) ds
 
 abbrev pub value : List ℕ → ℕ
 value ds = valueAfter 0 ds
-
--- What a private function of the code leaves: the digits are the last ones of all places
-pub record Spelled (n : ℕ) (places : List ℕ) (i : ℕ) : Type 0 where
-  pub text : drop i places ≡ decimal n
-  pub size : length places ≡ digits
-  pub begins : i < digits

@@ -21,12 +21,8 @@ ascii s = codes (len s) s
 abbrev pub space : ℕ
 space = 32
 
--- a text put from place `at` on: what the buffer is then, and where the text ends
-pub record Put (d : List ℕ) (at : ℕ) (text : List ℕ) (d′ : List ℕ) (end : ℕ) : Type 0 where
-  pub content : d′ ≡ patch d at text
-  pub place : end ≡ at + length text
-
--- the same where so many bytes are free from `at` on; else the buffer is as it was and the place is where it began
+-- a text put from place `at` on, where so many bytes are free there: what the buffer is then, and where the text ends; else the buffer
+-- is as it was and the place is where it was to begin
 pub record Written (room : ℕ) (text d : List ℕ) (at : ℕ) (d′ : List ℕ) (end : ℕ) : Type 0 where
   pub content : d′ ≡ cond (hasRoom (length d) at room) (patch d at text) d
   pub place : end ≡ cond (hasRoom (length d) at room) (at + length text) at

@@ -3,8 +3,9 @@ ghost use Prim.Native.Nat.{_+_, _≤_};
 ghost use mathlib.Core.List.{_∷_};
 ghost use mathlib.Core.Path.{_≡_};
 ghost use lib.ListN.{length};
-ghost use Rattle.listing.specs.Text.{Put, space};
-ghost use Rattle.listing.specs.Decimal.{digits, decimal, Spelled};
+ghost use Rattle.listing.specs.Text.{space};
+ghost use Rattle.listing.specs.inner.Putting.{Put, Spelled};
+ghost use Rattle.listing.specs.Decimal.{digits, decimal};
 use crate::text::put;
 
 // The most digits of a u64.

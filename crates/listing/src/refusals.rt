@@ -1,7 +1,8 @@
 // What is said of a refused record, beside the listing.
 ghost use Prim.Native.Nat.{_+_, _≤_};
 ghost use lib.ListN.{length};
-ghost use Rattle.listing.specs.Text.{Put, Written};
+ghost use Rattle.listing.specs.Text.{Written};
+ghost use Rattle.listing.specs.inner.Putting.{Put};
 ghost use Rattle.listing.specs.Refusals.{wordsSize, wordsOf, meaningSize, meaning, placeSize, place, refusalSize, refusalLine};
 use crate::MEANING;
 use crate::REFUSAL;

@@ -1,7 +1,7 @@
 // Bytes put into a buffer, one text after another.
 ghost use Prim.Native.Nat.{_+_, _≤_};
 ghost use lib.ListN.{length};
-ghost use Rattle.listing.specs.Text.{Put};
+ghost use Rattle.listing.specs.inner.Putting.{Put};
 
 pub(crate) fn put(text: &[u8], out: &mut [u8], at: usize) -> usize
     requires { ⌜ at + length (now text) ≤ length (now out) ⌝ }

@@ -9,7 +9,7 @@ use lib.ListN.{length}
 use borrow.Author.Tests.{eq-eqb, ne-eqb}
 use Rattle.prelude.specs.Build.{build}
 use Rattle.mag.specs.Samples.{magSize, samplesSize, range, rangeGiven, RangeIs, magSized, bothSized, Laid}
-use Rattle.mag.specs.Fours.{fours, fourAt, sampleIn}
+use Rattle.mag.specs.inner.Fours.{fours, fourAt, sampleIn}
 use Rattle.mag.specs.declared.unpacking.Unpacked.{Unpacked}
 use Rattle.mag.specs.declared.unpacking.Unpacked.the-variants.{Range, NoSuchPlace}
 use Rattle.mag.proofs.Pairs.{from-fours}

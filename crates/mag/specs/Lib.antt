@@ -1,3 +1,3 @@
 pub mod Samples
-pub mod Fours
 pub mod Field
+pub mod inner

@@ -25,7 +25,7 @@ use Rattle.state.specs.Deciding.{Input, fieldsOf, countAt, stateHolds, readerRu
 use Rattle.state.specs.declared.State.{State}
 use Rattle.state.specs.declared.deciding.Decided.{Decided}
 use Rattle.state.proofs.Facts.{facts}
-use Rattle.state.proofs.Numbers.{exactly}
+use Rattle.state.proofs.Decisions.{exactly}
 use Rattle.state.proofs.Told.{science-type}
 use Rattle.reader.specs.Buffers.{Buffers, worked}
 use Rattle.reader.specs.Guard.{carriesCell, cellHeld, alreadyHeld, typeOf, joinsOpen, guardHolds, guardedRules, guardedNumber, guardedOf, unsound}

@@ -27,7 +27,7 @@ use Rattle.state.specs.declared.deciding.Stepped.{Stepped}
 use Rattle.state.specs.declared.deciding.Taken.{Taken}
 use Rattle.state.specs.declared.ending.Ended.{Ended}
 use Rattle.state.specs.declared.ending.Finished.{Finished}
-use Rattle.state.proofs.Numbers.{exactly, refused-is}
+use Rattle.state.proofs.Decisions.{exactly, refused-is}
 use Rattle.state.proofs.Told.{samples-mag, samples-slot, samples-first}
 use Rattle.state.proofs.Closing.{step-closes, end-closes, end-clears, cells-by-gap}
 use Rattle.state.proofs.Keeping.{step-sound, end-sound}

@@ -27,13 +27,13 @@ use Rattle.state.specs.declared.closed.Works.{Works}
 use Rattle.state.specs.declared.deciding.Decided.{Decided}
 use Rattle.state.specs.declared.deciding.Stepped.{Stepped}
 use Rattle.state.specs.declared.ending.Ended.{Ended}
-use Rattle.state.proofs.Numbers.{refused-is}
+use Rattle.state.proofs.Decisions.{refused-is}
 use Rattle.state.proofs.Told.{all-pass, passed-size, at-work, science-type, cells-science, slot-small, one-fits, two-fits}
 use Rattle.state.proofs.Closing.{Ends, end-clears}
 use Rattle.reader.specs.Buffers.{Buffers, buffers, sized, worked}
 use Rattle.reader.specs.Steps.{input, StepIs, FinishIs}
-use Rattle.reader.specs.Asked.{Alike, ClosedBy, CellsReady, SamplesReady, CellsWorked, SamplesWorked}
-use Rattle.reader.specs.Asked.{BurstReady, SnapshotReady, SnapshotWorked, AllReady}
+use Rattle.reader.specs.inner.Asked.{Alike, ClosedBy, CellsReady, SamplesReady, CellsWorked, SamplesWorked}
+use Rattle.reader.specs.inner.Asked.{BurstReady, SnapshotReady, SnapshotWorked, AllReady}
 use Rattle.reader.proofs.Lengths.{Sizes, sizes}
 
 -- all buffers, once the work is done on each pair and on the snapshot's three

@@ -3,7 +3,7 @@ ghost use mathlib.Core.Bool.{true};
 ghost use mathlib.Core.Path.{_≡_};
 ghost use lib.ListN.{length};
 ghost use Rattle.reader.specs.Buffers.{copiedBy, clearedBy};
-ghost use Rattle.reader.specs.Asked.{Alike, ClosedBy};
+ghost use Rattle.reader.specs.inner.Asked.{Alike, ClosedBy};
 use buffers::Work;
 
 fn copy_where(copies: bool, from: &[u8], finished: &mut [u8])

@@ -3,7 +3,7 @@ ghost use mathlib.Core.Bool.{true};
 ghost use mathlib.Core.Path.{_≡_};
 ghost use Rattle.record.specs.Parts.{burstBytes};
 ghost use Rattle.reader.specs.Buffers.{packetLaidBy};
-ghost use Rattle.reader.specs.Asked.{isBusy, BurstReady, PacketReady, PacketWorked, SnapshotReady, SnapshotWorked};
+ghost use Rattle.reader.specs.inner.Asked.{isBusy, BurstReady, PacketReady, PacketWorked, SnapshotReady, SnapshotWorked};
 use crate::moving::close;
 use buffers::Work;
 use snapshot::PacketWork;

@@ -15,7 +15,8 @@ use Rattle.clock.specs.Clock.{begun}
 use Rattle.clock.specs.declared.Clock.{Clock}
 use Rattle.snapshot.specs.Snapshot.{isOpen, packetType, isPart, markOf, joins, extends, renews, passes, stepPacket, stepSnapshot}
 use Rattle.snapshot.specs.Soundness.{packetsAmong, lastHighest, firstFits, noneOpen, snapshotSound}
-use Rattle.snapshot.specs.Place.{isQuiet, leaves, steppedAt}
+use Rattle.snapshot.specs.Place.{leaves, steppedAt}
+use Rattle.snapshot.specs.inner.Passing.{isQuiet}
 use Rattle.snapshot.specs.declared.Snapshot.{Snapshot}
 use Rattle.snapshot.specs.declared.PacketStep.{PacketStep}
 

@@ -1,3 +1,4 @@
 pub mod Snapshot
 pub mod Soundness
 pub mod Place
+pub mod inner

@@ -2,18 +2,13 @@
 -- none is (`step-is` in proofs/Facts.antt).
 -- Assumes nothing.
 use Prim.Native.Nat.{ℕ}
-use mathlib.Core.Bool.{Bool, cond, _&&_}
-use lib.Dec.{eqb}
+use mathlib.Core.Bool.{cond}
 use Rattle.buffers.specs.Working.{noWork}
 use Rattle.clock.specs.declared.Clock.{Clock}
 use Rattle.snapshot.specs.Snapshot.{unreported, packetWork, stepSnapshot}
 use Rattle.snapshot.specs.Soundness.{packetsAmong}
 use Rattle.snapshot.specs.declared.Snapshot.{Snapshot}
 use Rattle.snapshot.specs.declared.SnapshotStep.{SnapshotStep}
-
--- a step of the code: none is open and no packet comes. No public promise rests on it
-unfoldable pub isQuiet : Snapshot → ℕ → ℕ → Bool
-isQuiet s one two = eqb (s .held) 0 && (eqb one 0 && eqb two 0)
 
 -- nothing is done
 abbrev pub leaves : Snapshot → SnapshotStep

@@ -20,8 +20,8 @@ use Rattle.electrons.specs.Questions.{CountIs}
 use Rattle.electrons.specs.declared.questions.Count.{Count}
 use Rattle.electrons.proofs.Meant.{asked-told}
 use Rattle.snapshots.specs.Questions.{askedAt, hasAngle, angleAt}
-use Rattle.snapshots.specs.Raw.{holdsByte, askable, byteOf, ByteIs, magAngleByte, isMagAngle, MagAngleIs}
-use Rattle.snapshots.specs.Steps.{countAt}
+use Rattle.snapshots.specs.Raw.{holdsByte, askable, ByteIs, magAngleByte, isMagAngle, MagAngleIs}
+use Rattle.snapshots.specs.inner.Places.{byteOf, countAt}
 
 -- the steps before one, 14 at most
 pub steps-before : (angles e : ℕ) → e ≤ 14 → angles * e ≤ 14 * angles

@@ -1,3 +1,3 @@
 pub mod Raw
 pub mod Questions
-pub mod Steps
+pub mod inner

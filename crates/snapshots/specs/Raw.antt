@@ -8,7 +8,7 @@ use lib.Dec.{ltb}
 use lib.ListN.{getD}
 use Rattle.prelude.specs.Marks.{bitSet}
 use Rattle.bursts.specs.Bursts.{packets, snapshotSize, anglesPart, carrierOf}
-use Rattle.cells.specs.Bytes.{askableOf, rawOf, RawIs}
+use Rattle.cells.specs.Bytes.{askableOf, RawIs}
 use Rattle.cells.specs.declared.raw.Raw.{Raw}
 
 -- the packet that carries byte p is held when its mark is set
@@ -21,9 +21,6 @@ askable = askableOf snapshotSize packets
 
 abbrev pub isByte : List ℕ → ℕ → ℕ → Bool
 isByte s held p = askable s held && ltb p snapshotSize
-
-abbrev pub byteOf : List ℕ → ℕ → ℕ → Raw
-byteOf s held p = rawOf (isByte s held p) (holdsByte held p) (getD s p 0)
 
 abbrev pub ByteIs : List ℕ → ℕ → ℕ → Raw → Type 0
 ByteIs s held p = RawIs (isByte s held p) (holdsByte held p) (getD s p 0)

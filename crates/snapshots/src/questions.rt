@@ -3,7 +3,7 @@ ghost use mathlib.Core.Path.{_≡_};
 ghost use Prim.Native.Nat.{_≤_};
 ghost use Rattle.electrons.specs.Questions.{CountIs, totalCell, rateCell};
 ghost use Rattle.snapshots.specs.Questions.{threeAsked, pitchAsked, headerAsked};
-ghost use Rattle.snapshots.specs.Steps.{anglePlace, countAt};
+ghost use Rattle.snapshots.specs.inner.Places.{anglePlace, countAt};
 use bursts::SNAPSHOT;
 use counts::Divided;
 use electrons::Count;

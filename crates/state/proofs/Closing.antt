@@ -33,7 +33,7 @@ use Rattle.state.specs.declared.deciding.Decided.{Decided}
 use Rattle.state.specs.declared.deciding.Taken.{Taken}
 use Rattle.state.specs.declared.ending.Ending.the-variants.{Done}
 use Rattle.state.proofs.Keeping.{ended-sound}
-use Rattle.state.proofs.Numbers.{accepted-is, refused-is}
+use Rattle.state.proofs.Decisions.{accepted-is, refused-is}
 
 pub record Closes (w : Works) (x : Closed) : Type 0 where
   pub samples : MajorCloses (w .samples .work) (x .major)

@@ -21,7 +21,8 @@ use Rattle.snapshot.specs.Place as snapshot
 use Rattle.snapshot.specs.declared.SnapshotStep.{SnapshotStep}
 use Rattle.snapshot.proofs.Facts as snapshots
 use Rattle.state.specs.Soundness.{sound}
-use Rattle.state.specs.Deciding.{inAccumulation, inMajor, inSnapshot, Ready}
+use Rattle.state.specs.Deciding.{inAccumulation, inMajor, inSnapshot}
+use Rattle.state.specs.inner.Accepting.{Ready}
 use Rattle.state.specs.declared.State.{State}
 
 -- the parts of the list, each by itself

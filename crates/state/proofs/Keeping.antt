@@ -25,7 +25,7 @@ use Rattle.state.specs.Keeping.{Sound, StepKeeps, EndKeeps}
 use Rattle.state.specs.declared.State.{State}
 use Rattle.state.specs.declared.deciding.Decided.{Decided}
 use Rattle.state.proofs.Facts.{SoundParts, facts, is-sound}
-use Rattle.state.proofs.Numbers.{accepted-is, refused-is}
+use Rattle.state.proofs.Decisions.{accepted-is, refused-is}
 use Rattle.state.proofs.Told.{Passed, all-pass, science-type}
 
 -- nothing open passes with every clock that passes

@@ -1,5 +1,5 @@
 pub mod Facts
-pub mod Numbers
+pub mod Decisions
 pub mod Ends
 pub mod Told
 pub mod Keeping

@@ -25,7 +25,7 @@ use Rattle.snapshot.proofs.Closing as snapshot
 use Rattle.state.specs.Soundness.{sound}
 use Rattle.state.specs.Deciding.{Input, fieldsOf, countAt, stateHolds, clockHolds, turnHolds, numberOf, refusal, acceptance, decidedOf}
 use Rattle.state.specs.declared.deciding.Decided.{Decided}
-use Rattle.state.proofs.Numbers.{number-is, accepted-is, refused-is}
+use Rattle.state.proofs.Decisions.{number-is, accepted-is, refused-is}
 
 -- a record that no rule refuses passes each
 pub record Passed (i : Input) : Type 0 where

@@ -120,14 +120,3 @@ answerNumber (Accepted t) = 0
 pub record DecidedIs (s : State) (sized : Bool) (r : List ℕ) (x : Decided) : Type 0 where
   pub is : x ≡ decidedOf (record { state = s; sized = sized; bytes = r })
   pub number : answerNumber (x .stepped .answer) ≡ numberOf (record { state = s; sized = sized; bytes = r })
-
--- A step of the code: rules 12 and 14. Only a private function promises this.
-unfoldable pub decidedBy : State → Record → ℕ → Decided
-decidedBy s f range =
-    cond (isLater (s .clock) f) (cond (hasTurn (s .clock) f) (acceptance s f (dated (s .clock) f) range) (refusal s 14)) (refusal s 12)
-
--- what the private function asks that accepts a record at count d
-pub record Ready (s : State) (f : Record) (d : ℕ) : Type 0 where
-  pub passes : sound s ≡ true
-  pub above : s .clock .any ≡ true → s .clock .last < d
-  pub kind : f .«frame_type» < 64

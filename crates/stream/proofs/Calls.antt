@@ -32,7 +32,7 @@ use Rattle.state.specs.declared.deciding.Decided.{Decided}
 use Rattle.major.specs.declared.Major.{Major}
 use Rattle.major.specs.declared.MajorReport.{MajorReport}
 use Rattle.major.specs.declared.MajorStep.{MajorStep}
-use Rattle.state.proofs.Numbers.{accepted-is, refused-is}
+use Rattle.state.proofs.Decisions.{accepted-is, refused-is}
 use Rattle.reader.specs.Buffers.{Buffers, copiedBy, cellsAfter, samplesAfter, worked}
 use Rattle.reader.specs.Steps.{input}
 use Rattle.gathering.specs.Gathering.{Gatherer, gather}

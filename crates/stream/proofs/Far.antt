@@ -14,7 +14,7 @@ use Rattle.clock.specs.declared.Clock.{Clock}
 use Rattle.clock.proofs.Laws.{Follows, follows-none, follows-last}
 use Rattle.state.specs.Soundness.{fresh}
 use Rattle.state.specs.Deciding.{stateHolds, clockHolds, numberOf}
-use Rattle.state.proofs.Numbers.{number-is}
+use Rattle.state.proofs.Decisions.{number-is}
 use Rattle.reader.specs.Steps.{input}
 use Rattle.reader.proofs.Lengths.{is-sized}
 use Rattle.gathering.specs.Lists.{Some}

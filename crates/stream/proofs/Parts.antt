@@ -33,7 +33,7 @@ use Rattle.state.specs.Deciding.{stateHolds, clockHolds, turnHolds, numberOf, d
 use Rattle.state.specs.Ending.{endedOf}
 use Rattle.state.specs.Keeping.{Sound}
 use Rattle.state.specs.declared.State.{State}
-use Rattle.state.proofs.Numbers.{number-is}
+use Rattle.state.proofs.Decisions.{number-is}
 use Rattle.state.proofs.Told.{accepted-clock, slot-small, one-fits, two-fits}
 use Rattle.state.proofs.Keeping.{step-sound, fresh-sound}
 use Rattle.reader.specs.Buffers.{Buffers, sized, copiedBy, clearedBy, cellsAfter, samplesAfter, afterFirst}

@@ -13,7 +13,7 @@ use Rattle.state.specs.Ending.{ending, unended, endedOf, endNumber, endingNumbe
 use Rattle.state.specs.Keeping.{Sound}
 use Rattle.state.specs.declared.State.{State}
 use Rattle.state.specs.declared.deciding.Decided.{Decided}
-use Rattle.state.proofs.Numbers.{accepted-is, refused-is}
+use Rattle.state.proofs.Decisions.{accepted-is, refused-is}
 use Rattle.state.proofs.Keeping.{step-sound, end-sound}
 use Rattle.reader.specs.Buffers.{Buffers, sized}
 use Rattle.reader.specs.Steps.{input}

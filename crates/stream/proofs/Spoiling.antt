@@ -9,7 +9,7 @@ use borrow.Author.Tests.{ne-eqb}
 use Rattle.record.specs.Rules.{broken}
 use Rattle.state.specs.Deciding.{stateHolds, answerNumber}
 use Rattle.state.specs.declared.State.{State}
-use Rattle.state.proofs.Numbers.{number-is}
+use Rattle.state.proofs.Decisions.{number-is}
 use Rattle.reader.specs.Buffers.{Buffers}
 use Rattle.reader.specs.Steps.{input}
 use Rattle.stream.specs.Running.{called, traceOf, run}

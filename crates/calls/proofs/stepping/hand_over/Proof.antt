@@ -4,7 +4,7 @@ use mathlib.Core.Path.{sym, ap, _∙_}
 use Prim.Native.Nat.{ℕ}
 use Rattle.state.specs.declared.deciding.Answer.{Answer}
 use Rattle.calls.specs.Reading.{back, handedBy}
-use Rattle.calls.specs.Handing.{numbered, handedAs}
+use Rattle.calls.specs.inner.Handing.{numbered, handedAs}
 use borrow.Author.Needs.{needs}
 use Rattle.calls.proofs.stepping.hand_over.Statement.{statement}
 use Rattle.calls.proofs.stepping.hand_over.Tie as tie

@@ -1,7 +1,7 @@
 -- `calls::stepping::not_zero` meets its contract.
 -- Assumes nothing.
 use borrow.Author.Tests.{eq-eqb, ne-eqb}
-use Rattle.calls.specs.Handing.{notZero}
+use Rattle.calls.specs.inner.Handing.{notZero}
 use borrow.Author.Needs.{needs}
 use Rattle.calls.proofs.stepping.not_zero.Statement.{statement}
 use Rattle.calls.proofs.stepping.not_zero.Tie as tie

@@ -1,6 +1,6 @@
 -- `reader::snapshot_part::is_busy` meets its contract.
 -- Assumes nothing.
-use Rattle.reader.specs.Asked.{isBusy}
+use Rattle.reader.specs.inner.Asked.{isBusy}
 use mathlib.Core.Path.{refl}
 use Rattle.reader.proofs.snapshot_part.is_busy.Statement.{statement}
 use Rattle.reader.proofs.snapshot_part.is_busy.Tie as tie

@@ -1,6 +1,6 @@
 -- `snapshot::steps::is_quiet` meets its contract.
 -- Assumes nothing.
-use Rattle.snapshot.specs.Place.{isQuiet}
+use Rattle.snapshot.specs.inner.Passing.{isQuiet}
 use mathlib.Core.Path.{refl}
 use Rattle.snapshot.proofs.steps.is_quiet.Statement.{statement}
 use Rattle.snapshot.proofs.steps.is_quiet.Tie as tie

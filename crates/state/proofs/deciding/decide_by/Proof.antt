@@ -4,7 +4,8 @@ use Rattle.clock.proofs.Laws.{arrives, arrives-not, arrives-past}
 use Rattle.state.proofs.Facts.{ready}
 use mathlib.Core.Path.{sym, ap, _∙_}
 use Prim.Native.Nat.{ℕ}
-use Rattle.state.specs.Deciding.{acceptance, decidedBy}
+use Rattle.state.specs.Deciding.{acceptance}
+use Rattle.state.specs.inner.Accepting.{decidedBy}
 use borrow.Author.Needs.{needs}
 use Rattle.state.proofs.deciding.decide_by.Statement.{statement}
 use Rattle.state.proofs.deciding.decide_by.Tie as tie

@@ -7,8 +7,8 @@ use Rattle.prelude.proofs.Conds.{held, fails}
 use Rattle.record.proofs.Opened.{sized}
 use Rattle.record.proofs.Told.{fields-told, number-told}
 use Rattle.state.specs.Soundness.{sound}
-use Rattle.state.specs.Deciding.{decidedBy}
-use Rattle.state.proofs.Numbers.{unsound, record-refused, record-decided, type-below, above-0, off}
+use Rattle.state.specs.inner.Accepting.{decidedBy}
+use Rattle.state.proofs.Decisions.{unsound, record-refused, record-decided, type-below, above-0, off}
 use borrow.Author.Needs.{needs}
 use Rattle.state.proofs.deciding.decide_on.Statement.{statement}
 use Rattle.state.proofs.deciding.decide_on.Tie as tie

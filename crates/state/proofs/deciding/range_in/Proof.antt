@@ -1,7 +1,7 @@
 -- `state::deciding::range_in` meets its contract.
 -- Assumes nothing.
 use denote.Ref.{now}
-use Rattle.state.proofs.Numbers.{mag-is, range-so, range-always}
+use Rattle.state.proofs.Decisions.{mag-is, range-so, range-always}
 use borrow.Author.Needs.{needs}
 use Rattle.state.proofs.deciding.range_in.Statement.{statement}
 use Rattle.state.proofs.deciding.range_in.Tie as tie

@@ -4,7 +4,7 @@ use borrow.Author.Tests.{not-false}
 use Rattle.prelude.proofs.Conds.{held, fails}
 use Rattle.state.specs.Soundness.{sound}
 use Rattle.state.proofs.Ends.{is-unended, is-ended}
-use Rattle.state.proofs.Numbers.{off}
+use Rattle.state.proofs.Decisions.{off}
 use borrow.Author.Needs.{needs}
 use Rattle.state.proofs.ending.end.Statement.{statement}
 use Rattle.state.proofs.ending.end.Tie as tie

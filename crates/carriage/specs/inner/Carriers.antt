@@ -1,4 +1,4 @@
--- Steps of the code. Only private functions promise these, here and in `cells`; no public promise rests on them.
+-- How the type that carries a cell is found; and how many samples a frame has, for private functions of `cells` too.
 -- Assumes nothing.
 use Prim.Native.Nat.{ℕ, _+_, _*_, _-_, _/_, _%_}
 use mathlib.Core.Bool.{Bool, cond, _||_}

@@ -21,7 +21,8 @@ use Rattle.mag.specs.declared.unpacking.Unpacked.{Unpacked}
 use Rattle.mag.specs.declared.unpacking.Unpacked.the-variants as unpacked
 use Rattle.state.specs.Soundness.{sound}
 use Rattle.state.specs.Deciding.{Input, fieldsOf, countAt, magRange, stateHolds, clockHolds, turnHolds, readerRules, numberOf}
-use Rattle.state.specs.Deciding.{refusal, acceptance, decidedOf, answerNumber, DecidedIs, decidedBy}
+use Rattle.state.specs.Deciding.{refusal, acceptance, decidedOf, answerNumber, DecidedIs}
+use Rattle.state.specs.inner.Accepting.{decidedBy}
 use Rattle.state.specs.declared.State.{State}
 use Rattle.state.specs.declared.deciding.Decided.{Decided}
 

@@ -1,6 +1,6 @@
 // A row of the table as numbers, for laying a frame (000, section 2.3).
 ghost use mathlib.Core.Path.{_≡_};
-ghost use Rattle.carriage.specs.Numbers.{numbersOf};
+ghost use Rattle.carriage.specs.RowNumbers.{numbersOf};
 
 // In frame order: how many samples, of 16 bytes each, and the first cell of each; the first header byte and how many; the first
 // 3D byte, for what is left of the 83.

@@ -1,4 +1,4 @@
--- `carriage::numbers::numbers_of` meets its contract: each arm is its row of the printed table.
+-- `carriage::row_numbers::numbers_of` meets its contract: each arm is its row of the printed table.
 -- Assumes nothing.
 use mathlib.Core.Path.{_≡_, sym, ap}
 use mathlib.Core.List.{[]}
@@ -8,9 +8,9 @@ use lib.ListN.{List·getD-eq-default}
 use Rattle.prelude.specs.Build.{build}
 use Rattle.prelude.proofs.Arms.{past-arms}
 use Rattle.carriage.specs.Carriage.{samplesIn, rows, rowOf, carries, none}
-use Rattle.carriage.specs.Numbers.{numbersOf}
-use Rattle.carriage.proofs.numbers.numbers_of.Statement.{statement}
-use Rattle.carriage.proofs.numbers.numbers_of.Tie as tie
+use Rattle.carriage.specs.RowNumbers.{numbersOf}
+use Rattle.carriage.proofs.row_numbers.numbers_of.Statement.{statement}
+use Rattle.carriage.proofs.row_numbers.numbers_of.Tie as tie
 
 row : (k t : ℕ) → t ≡ k → numbersOf k ≡ numbersOf t
 row k t e = ap numbersOf (sym e)

@@ -11,8 +11,8 @@ use denote.Ref.{now}
 use Rattle.buffers.proofs.Copies.{copy-more, copy-all, copy-same, copy-none}
 use native.Mathlib.Omega.{arith}
 use borrow.Author.Needs.{needs}
-use Rattle.buffers.proofs.numbers.copy_numbers.Statement.{statement}
-use Rattle.buffers.proofs.numbers.copy_numbers.Tie as tie
+use Rattle.buffers.proofs.signed.copy_numbers.Statement.{statement}
+use Rattle.buffers.proofs.signed.copy_numbers.Tie as tie
 
 abbrev Inv-loop : tie.InvT-loop
 Inv-loop from to₀ i₀ to i = (i ≤ length from) × (to ≡ take i from ++ drop i to₀) × (length to ≡ length to₀)

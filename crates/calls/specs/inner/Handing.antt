@@ -1,4 +1,4 @@
--- Steps of the code: how a step is handed over. Only private functions promise this; no public promise rests on it.
+-- How a step is handed over.
 -- Assumes nothing.
 use Prim.Native.Nat.{ℕ}
 use mathlib.Core.Bool.{cond}

@@ -9,8 +9,8 @@ use denote.Ref.{now}
 use Rattle.buffers.proofs.Fills.{fill-more, fill-all}
 use native.Mathlib.Omega.{arith}
 use borrow.Author.Needs.{needs}
-use Rattle.buffers.proofs.numbers.clear_numbers.Statement.{statement}
-use Rattle.buffers.proofs.numbers.clear_numbers.Tie as tie
+use Rattle.buffers.proofs.signed.clear_numbers.Statement.{statement}
+use Rattle.buffers.proofs.signed.clear_numbers.Tie as tie
 
 abbrev Inv-loop : tie.InvT-loop
 Inv-loop buffer₀ i₀ buffer i = (i ≤ length buffer₀) × (buffer ≡ replicate i (pos 0) ++ drop i buffer₀) × (length buffer ≡ length buffer₀)

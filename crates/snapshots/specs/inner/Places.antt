@@ -1,20 +1,26 @@
--- Steps of the code: the place asked for, and what the byte there means. Only private functions promise these; no public promise
--- rests on them.
+-- The place asked for, and what the byte there means.
 -- Assumes nothing.
 use Prim.Native.Nat.{ℕ}
 use mathlib.Core.Bool.{cond}
 use mathlib.Core.List.{List}
 use Rattle.counts.specs.declared.codes.Divided.{Divided}
+use lib.ListN.{getD}
 use Rattle.bursts.specs.Bursts.{snapshotSize}
+use Rattle.cells.specs.Bytes.{rawOf}
+use Rattle.cells.specs.declared.raw.Raw.{Raw}
 use Rattle.electrons.specs.Meaning.{meaning}
 use Rattle.electrons.specs.declared.questions.Count.{Count}
 use Rattle.electrons.specs.declared.scale.Scale.the-variants.{Known}
 use Rattle.snapshots.specs.Questions.{hasAngle, angleAt}
-use Rattle.snapshots.specs.Raw.{byteOf}
+use Rattle.snapshots.specs.Raw.{isByte, holdsByte}
 
 -- a place, or the first number that is none
 abbrev pub anglePlace : ℕ → ℕ → ℕ → ℕ → ℕ
 anglePlace from angles e a = cond (hasAngle angles e a) (angleAt from angles e a) snapshotSize
+
+-- the byte at a place, or why there is none
+abbrev pub byteOf : List ℕ → ℕ → ℕ → Raw
+byteOf s held p = rawOf (isByte s held p) (holdsByte held p) (getD s p 0)
 
 abbrev pub countAt : List ℕ → ℕ → ℕ → Divided → Count
 countAt s held p d = meaning (byteOf s held p) (Known d)

@@ -1,0 +1,10 @@
+-- Records that the snapshot needn't look at.
+-- Assumes nothing.
+use Prim.Native.Nat.{ℕ}
+use mathlib.Core.Bool.{Bool, _&&_}
+use lib.Dec.{eqb}
+use Rattle.snapshot.specs.declared.Snapshot.{Snapshot}
+
+-- none is open and no packet comes
+unfoldable pub isQuiet : Snapshot → ℕ → ℕ → Bool
+isQuiet s one two = eqb (s .held) 0 && (eqb one 0 && eqb two 0)
