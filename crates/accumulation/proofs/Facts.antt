@@ -11,7 +11,7 @@ use borrow.Author.Tests.{eqb-true, eqb-false, ltb-true, leb-true, eq-eqb, ne-eqb
 use Rattle.prelude.proofs.Conds.{two, second}
 use Rattle.prelude.specs.Marks.{bitSet, highest}
 use Rattle.prelude.proofs.Marks.{highest-high, highest-set, set-below}
-use Rattle.clock.specs.Clock.{counts, begun}
+use Rattle.clock.specs.Clock.{fullCounts, begun}
 use Rattle.clock.specs.declared.Clock.{Clock}
 use Rattle.clock.proofs.Laws.{has-begun}
 use Rattle.accumulation.specs.Accumulation.{isOpen, gap, fewest, most, joins, stepAccumulation}
@@ -43,9 +43,9 @@ pub is-sound : (c : Clock) (a : Accumulation) → Frames c a → accumulationSou
 unfolding accumulationSound
 is-sound c a f = rw (f .counted, f .among, f .fit, f .others, f .shut) (f .start)
 
-pub first-below : (a : Accumulation) → countsBelow a ≡ true → a .first < counts
+pub first-below : (a : Accumulation) → countsBelow a ≡ true → a .first < fullCounts
 unfolding countsBelow
-first-below a e = ltb-true (a .first) counts (two (ltb (a .first) counts) _ e .0)
+first-below a e = ltb-true (a .first) fullCounts (two (ltb (a .first) fullCounts) _ e .0)
 
 pub frames-36 : (a : Accumulation) → framesAmong a ≡ true → a .held < 2 ^ 36
 unfolding framesAmong

@@ -11,7 +11,7 @@ use lib.Pow.{pow-mono, pow-pos}
 use borrow.Author.Tests.{eqb-true, eqb-false, ne-eqb, lt-ltb, le-leb}
 use Rattle.prelude.specs.Marks.{highest, marked}
 use Rattle.prelude.proofs.Marks.{highest-marked, marked-below, ones-marked}
-use Rattle.clock.specs.Clock.{counts, accepted}
+use Rattle.clock.specs.Clock.{fullCounts, accepted}
 use Rattle.clock.specs.declared.Clock.{Clock}
 use Rattle.clock.proofs.Laws.{not-begun}
 use Rattle.accumulation.specs.Accumulation.{noAccumulation, joins, joined, started, passed, extends, renews, passes, stepAccumulation}
@@ -28,7 +28,7 @@ unfolding marked
 unmarked u = zero-add (2 ^ u)
 
 module _ (c : Clock) (a : Accumulation) (f : Frames c a) where
-  keeps-joined : (u d : ℕ) → u < 36 → c .last < d → d < counts → joins a u d ≡ true → Frames (accepted d) (joined a u d)
+  keeps-joined : (u d : ℕ) → u < 36 → c .last < d → d < fullCounts → joins a u d ≡ true → Frames (accepted d) (joined a u d)
   unfolding countsBelow framesAmong framesFit othersFit noneOpen
   keeps-joined u d k l b e =
       let h = below-mark a u d (f .among) e in
@@ -36,7 +36,7 @@ module _ (c : Clock) (a : Accumulation) (f : Frames c a) where
       let n : marked (a .held) u < 2 ^ 36 = omega (arith, pow-mono {i = u + 1} {j = 36} (omega arith)) in
       let z : marked (a .held) u ≡ 0 → ⊥ = λ q. omega (arith, ones-marked (a .held) u h, ones-zero, ap ones q) in
       record {
-        counted = rw (lt-ltb d counts b, lt-ltb (a .first) counts (first-below a (f .counted)));
+        counted = rw (lt-ltb d fullCounts b, lt-ltb (a .first) fullCounts (first-below a (f .counted)));
         among = rw (lt-ltb (marked (a .held) u) (2 ^ 36) n, highest-marked (a .held) u h) (or-true (eqb (marked (a .held) u) 0));
         fit = le-leb (a .first + ones (marked (a .held) u) - 1) d
             (omega (arith, ones-marked (a .held) u h, fits a (f .fit), others-last c a (f .others)));
@@ -45,7 +45,7 @@ module _ (c : Clock) (a : Accumulation) (f : Frames c a) where
         start = refl;
       }
 
-  keeps-passed : (d : ℕ) → d < counts → ((a .held ≡ 0 → ⊥) → c .last < d) → Frames (accepted d) (passed a)
+  keeps-passed : (d : ℕ) → d < fullCounts → ((a .held ≡ 0 → ⊥) → c .last < d) → Frames (accepted d) (passed a)
   unfolding countsBelow framesAmong framesFit othersFit noneOpen
   keeps-passed d b l = record {
     counted = f .counted;
@@ -67,12 +67,12 @@ module _ (c : Clock) (a : Accumulation) (f : Frames c a) where
       closed true t e = e
       closed false t e = refl
 
-keeps-started : (u d : ℕ) → u < 36 → d < counts → Frames (accepted d) (started u d)
+keeps-started : (u d : ℕ) → u < 36 → d < fullCounts → Frames (accepted d) (started u d)
 unfolding countsBelow framesAmong framesFit othersFit noneOpen
 keeps-started u d k b =
     let n : 2 ^ u < 2 ^ 36 = omega (arith, pow-mono {i = u + 1} {j = 36} (omega arith), marked-below 0 u (pow-pos u), unmarked u) in
     record {
-      counted = rw (lt-ltb d counts b);
+      counted = rw (lt-ltb d fullCounts b);
       among = rw (lt-ltb (2 ^ u) (2 ^ 36) n, top) (or-true (eqb (2 ^ u) 0));
       fit = le-leb (d + ones (2 ^ u) - 1) d (omega (arith, one));
       others = le-leb (d + 0) d (omega arith);
@@ -100,7 +100,7 @@ none-sound c = is-sound c noAccumulation (record {
 
 -- and a record at a later count keeps it
 pub step-sound : (c : Clock) (a : Accumulation) (science : Bool) (u d : ℕ) → accumulationSound c a ≡ true → (science ≡ true → u < 36)
-    → (c .any ≡ true → c .last < d) → d < counts → accumulationSound (accepted d) (stepAccumulation a science u d .next) ≡ true
+    → (c .any ≡ true → c .last < d) → d < fullCounts → accumulationSound (accepted d) (stepAccumulation a science u d .next) ≡ true
 unfolding stepAccumulation
 step-sound c a science u d e t above b = is-sound (accepted d) _ (go science (joins a u d) t refl)
   where

@@ -5,13 +5,13 @@ use mathlib.Core.Bool.{Bool, not, _&&_, _||_}
 use lib.Count.{ones}
 use lib.Dec.{eqb, ltb, leb}
 use Rattle.prelude.specs.Marks.{highest}
-use Rattle.clock.specs.Clock.{counts, begun}
+use Rattle.clock.specs.Clock.{fullCounts, begun}
 use Rattle.clock.specs.declared.Clock.{Clock}
 use Rattle.accumulation.specs.declared.Accumulation.{Accumulation}
 
 -- "counts below 2^24": full ones, so "below 2^36" (02, request 1)
 unfoldable pub countsBelow : Accumulation → Bool
-countsBelow a = ltb (a .first) counts && ltb (a .«last_count») counts
+countsBelow a = ltb (a .first) fullCounts && ltb (a .«last_count») fullCounts
 
 -- "frames held among 36, the highest being the last type"
 unfoldable pub framesAmong : Accumulation → Bool

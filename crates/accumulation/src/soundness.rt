@@ -1,17 +1,17 @@
 // The accumulation's part of the state list (01, "Numbers a refused record gets"), clause by clause.
 ghost use mathlib.Core.Path.{_≡_};
 ghost use Prim.Native.Nat.{_<_};
-ghost use Rattle.clock.specs.Clock.{counts};
+ghost use Rattle.clock.specs.Clock.{fullCounts};
 ghost use Rattle.accumulation.specs.Soundness.{countsBelow, framesAmong, framesFit, othersFit, noneOpen, accumulationSound};
 use crate::Accumulation;
-use clock::COUNTS;
 use clock::Clock;
+use clock::FULL_COUNTS;
 use record::FRAME_MARKS;
 
 fn counts_below(a: Accumulation) -> bool
     ensures { λ b. ⌜ b ≡ countsBelow a ⌝ }
 {
-    (a.first < COUNTS) & (a.last_count < COUNTS)
+    (a.first < FULL_COUNTS) & (a.last_count < FULL_COUNTS)
 }
 
 fn frames_among(a: Accumulation) -> bool
@@ -30,7 +30,7 @@ fn frames_among(a: Accumulation) -> bool
 }
 
 fn frames_fit(a: Accumulation) -> bool
-    requires { ⌜ a .first < counts ⌝ }
+    requires { ⌜ a .first < fullCounts ⌝ }
     ensures { λ b. ⌜ b ≡ framesFit a ⌝ }
 {
     let after = a.first + u64::count_ones(a.held) as u64;

@@ -11,7 +11,7 @@ use lib.ListN.{getD}
 use borrow.Author.Tests.{lt-ltb, le-ltb}
 use Rattle.prelude.specs.Upto.{both, upto}
 use Rattle.prelude.proofs.Upto.{both-left, both-right, upto-at}
-use Rattle.angles.specs.Angles.{lines, lineOf, angleAt, hasBin, angleGiven, AngleIs}
+use Rattle.angles.specs.Angles.{lines, anodeLine, angleAt, hasBin, angleGiven, AngleIs}
 use Rattle.angles.specs.declared.Anode.{Anode}
 use Rattle.angles.specs.declared.Angle.the-variants.{At, NoSuchBin}
 
@@ -30,7 +30,7 @@ phase a p = both (eqb (rowOf a .0 + p / rowOf a .1) (angleAt a p)) (ltb (angleAt
 
 -- an anode: no width is 0, its line ends with the angle printed, and all eight phases are right
 abbrev line : ℕ → Bool
-line a = both (leb 1 (rowOf a .1)) (eqb (angleAt (lineOf a .lastAnode) 7) (lineOf a .lastAngle))
+line a = both (leb 1 (rowOf a .1)) (eqb (angleAt (anodeLine a .lastAnode) 7) (anodeLine a .lastAngle))
 
 anode : ℕ → Bool
 anode a = both (line a) (upto (phase a) 8)
@@ -55,7 +55,7 @@ unfolding anode
 width-right a h = leb→le _ _ (both-left (leb 1 (rowOf a .1)) _ (both-left (line a) _ (at-anode a h)))
 
 -- each line ends with the angle printed
-pub line-ends : (a : ℕ) → a < 16 → angleAt (lineOf a .lastAnode) 7 ≡ lineOf a .lastAngle
+pub line-ends : (a : ℕ) → a < 16 → angleAt (anodeLine a .lastAnode) 7 ≡ anodeLine a .lastAngle
 unfolding anode
 line-ends a h = eqb→eq _ _ (both-right (leb 1 (rowOf a .1)) _ (both-left (line a) _ (at-anode a h)))
 

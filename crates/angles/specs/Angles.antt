@@ -39,15 +39,15 @@ abbrev pub lineIn : List Line → ℕ → Line
 lineIn [] a = line 0 0 0 0 1
 lineIn (l ∷ ls) a = cond (leb a (l .lastAnode)) l (lineIn ls a)
 
-abbrev pub lineOf : ℕ → Line
-lineOf a = lineIn lines a
+abbrev pub anodeLine : ℕ → Line
+anodeLine a = lineIn lines a
 
 -- eight phases an anode, so many of them an angle, anode after anode
 abbrev pub angleIn : Line → ℕ → ℕ → ℕ
 angleIn l a p = l .angle + (a - l .anode) * (8 / l .phases) + p / l .phases
 
 unfoldable pub angleAt : ℕ → ℕ → ℕ
-angleAt a p = angleIn (lineOf a) a p
+angleAt a p = angleIn (anodeLine a) a p
 
 -- "Anode above 15 or phase above 7 answers "no such bin""
 abbrev pub hasBin : ℕ → ℕ → Bool

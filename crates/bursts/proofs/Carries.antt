@@ -8,18 +8,18 @@ use native.Mathlib.Omega.{arith}
 use lib.Dec.{T, eqb, eqb→eq}
 use Rattle.prelude.specs.Upto.{both, upto}
 use Rattle.prelude.proofs.Upto.{both-left, both-right, upto-at, is-true}
-use Rattle.carriage.specs.Carriage.{total}
+use Rattle.carriage.specs.Carriage.{totalSize}
 use Rattle.bursts.specs.Bursts.{firstPacket, packets, burstSize, snapshotSize, rows, rowOf, allInPart, runsOf}
-use Rattle.bursts.specs.Bursts.{place, packetAt, carrierOf, Carried, Once}
+use Rattle.bursts.specs.Bursts.{place, packetPlace, carrierOf, Carried, Once}
 
 inOrder : ℕ → ℕ → Bool
-inOrder t k = eqb (place t k) (packetAt t + k)
+inOrder t k = eqb (place t k) (packetPlace t + k)
 
 -- the row of type t: its type, its items in their parts, 82 bytes, in order
 right : ℕ → Bool
 right t =
     both (eqb (rowOf t .type) t)
-    (both (allInPart (rowOf t .items)) (both (eqb (total (runsOf (rowOf t))) burstSize) (upto (inOrder t) burstSize)))
+    (both (allInPart (rowOf t .items)) (both (eqb (totalSize (runsOf (rowOf t))) burstSize) (upto (inOrder t) burstSize)))
 
 all-right : (i : ℕ) → i < packets → T (right (firstPacket + i))
 unfolding both right inOrder place rows
@@ -33,8 +33,8 @@ right-carried t h =
     record {
       type = eqb→eq _ _ (both-left (eqb (rowOf t .type) t) _ h);
       in-part = is-true _ (both-left (allInPart (rowOf t .items)) _ a);
-      size = eqb→eq _ _ (both-left (eqb (total (runsOf (rowOf t))) burstSize) _ b);
-      in-order = λ k l. eqb→eq _ _ (upto-at (inOrder t) burstSize (both-right (eqb (total (runsOf (rowOf t))) burstSize) _ b) k l);
+      size = eqb→eq _ _ (both-left (eqb (totalSize (runsOf (rowOf t))) burstSize) _ b);
+      in-order = λ k l. eqb→eq _ _ (upto-at (inOrder t) burstSize (both-right (eqb (totalSize (runsOf (rowOf t))) burstSize) _ b) k l);
     }
 
 pub carried : (t : ℕ) → firstPacket ≤ t → t < firstPacket + packets → Carried t

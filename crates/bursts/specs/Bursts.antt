@@ -7,7 +7,7 @@ use mathlib.Core.List.{List, [], _∷_, map}
 use mathlib.Core.Path.{_≡_}
 use lib.Dec.{leb}
 use lib.ListN.{getD}
-use Rattle.carriage.specs.Carriage.{Run, bytes, total, placeIn}
+use Rattle.carriage.specs.Carriage.{Run, bytes, totalSize, placeIn}
 
 -- "types 36 to 55 make 1,640 bytes"; "Burst packets consist of 82 bytes of data plus a type code" (000, section 2.4)
 abbrev pub firstPacket : ℕ
@@ -91,19 +91,19 @@ partOf (pitch a z) = pitchPart
 partOf (angles n) = anglesPart
 partOf (table n) = tablePart
 
-abbrev pub bytesOf : Item → Run
-bytesOf (header n) = record { at = 0; size = n }
-bytesOf (threeD a z) = bytes a z
-bytesOf (pitch a z) = bytes a z
-bytesOf (angles n) = record { at = 0; size = n }
-bytesOf (table n) = record { at = 0; size = n }
+abbrev pub runOf : Item → Run
+runOf (header n) = record { at = 0; size = n }
+runOf (threeD a z) = bytes a z
+runOf (pitch a z) = bytes a z
+runOf (angles n) = record { at = 0; size = n }
+runOf (table n) = record { at = 0; size = n }
 
 -- its bytes in the snapshot; that they are bytes of the part
 abbrev pub itemRun : Item → Run
-itemRun i = record { at = partOf i .at + bytesOf i .at; size = bytesOf i .size }
+itemRun i = record { at = partOf i .at + runOf i .at; size = runOf i .size }
 
 abbrev pub inPart : Item → Bool
-inPart i = leb (bytesOf i .at + bytesOf i .size) (partOf i .size)
+inPart i = leb (runOf i .at + runOf i .size) (partOf i .size)
 
 abbrev pub allInPart : List Item → Bool
 allInPart [] = true
@@ -118,8 +118,8 @@ place t k = placeIn (runsOf (rowOf t)) k
 
 -- where the bytes of the packet of type t begin; and of byte p of the snapshot the packet that carries it, by its mark: 0 for type
 -- 36, 19 for type 55
-abbrev pub packetAt : ℕ → ℕ
-packetAt t = burstSize * (t - firstPacket)
+abbrev pub packetPlace : ℕ → ℕ
+packetPlace t = burstSize * (t - firstPacket)
 
 abbrev pub carrierOf : ℕ → ℕ
 carrierOf p = p / burstSize
@@ -128,8 +128,8 @@ carrierOf p = p / burstSize
 pub record Carried (t : ℕ) : Type 0 where
   pub type : rowOf t .type ≡ t
   pub in-part : allInPart (rowOf t .items) ≡ true
-  pub size : total (runsOf (rowOf t)) ≡ burstSize
-  pub in-order : (k : ℕ) → k < burstSize → place t k ≡ packetAt t + k
+  pub size : totalSize (runsOf (rowOf t)) ≡ burstSize
+  pub in-order : (k : ℕ) → k < burstSize → place t k ≡ packetPlace t + k
 
 -- each of the 1,640 once: byte p is one byte of one packet, and no other's
 pub record Once (p : ℕ) : Type 0 where

@@ -7,7 +7,7 @@ use Rattle.counts.specs.declared.Range.{Range}
 use Rattle.cells.specs.Bytes.{rawOf, RawIs}
 use Rattle.cells.specs.Words.{said}
 use Rattle.cells.specs.declared.raw.Raw.{Raw}
-use Rattle.electrons.specs.Questions.{Asked, answer, words, gives, countSaid, CountIs}
+use Rattle.electrons.specs.Questions.{Asked, answer, askedWords, gives, countSaid, CountIs}
 use Rattle.electrons.specs.declared.questions.Count.{Count}
 use Rattle.electrons.specs.declared.questions.Count.the-variants.{Within, ScaleUnknown, Absent, NoSuchPlace}
 use Rattle.c_answers.specs.Answers.{wordsNumber, ValueGiven, RangeGiven, AskedGiven}
@@ -37,7 +37,7 @@ end-is end q old = go (q .place) (q .held) (q .known)
     go true false z = refl
     go false y z = refl
 
-number-is : (q : Asked) → wordsNumber (words q) ≡ cond (gives q) 0 (wordsNumber (words q))
+number-is : (q : Asked) → wordsNumber (askedWords q) ≡ cond (gives q) 0 (wordsNumber (askedWords q))
 unfolding wordsNumber
 number-is q = go (q .place) (q .held) (q .known)
   where

@@ -8,7 +8,7 @@ use lib.Dec.{eqb}
 use lib.ListN.{length}
 use Rattle.cells.specs.Words.{Words, noSuchPlace, absent, scaleUnknown, given, said}
 use Rattle.counts.specs.declared.Range.{Range}
-use Rattle.electrons.specs.Questions.{Asked, words, gives}
+use Rattle.electrons.specs.Questions.{Asked, askedWords, gives}
 use Rattle.record.specs.Rules.{broken}
 
 -- LPMAG_NO_SUCH_PLACE
@@ -57,4 +57,4 @@ pub record RangeGiven (holds : Bool) (other : ℕ) (r : Range) (low high n low�
 
 -- an answer of the questions about counts: the range, or the number of 01's words
 abbrev pub AskedGiven : Asked → ℕ → ℕ → ℕ → ℕ → ℕ → Type 0
-AskedGiven q = RangeGiven (gives q) (wordsNumber (words q)) (q .range)
+AskedGiven q = RangeGiven (gives q) (wordsNumber (askedWords q)) (q .range)

@@ -8,12 +8,12 @@ use lib.Dec.{eqb, leb}
 use lib.IntN.{ℤ}
 use lib.ListN.{length}
 use Rattle.mag.specs.Samples.{samplesSize, range, samples}
-use Rattle.burst_mag.specs.Seconds.{hasMag, magOf}
+use Rattle.burst_mag.specs.Seconds.{hasBurstMag, magOf}
 use Rattle.c_answers.specs.Answers.{nowhere}
 
 -- burst packet `which` of a record, 0 for the first and 1 for the second: whether it is there and is MAG, and its bytes
 abbrev pub hasWhich : List ℕ → ℕ → Bool
-hasWhich r which = leb which 1 && hasMag r (eqb which 1)
+hasWhich r which = leb which 1 && hasBurstMag r (eqb which 1)
 
 abbrev pub magWhich : List ℕ → ℕ → List ℕ
 magWhich r which = magOf r (eqb which 1)

@@ -5,7 +5,7 @@ ghost use Rattle.snapshots.specs.Questions.{threeAsked, pitchAsked, headerAsked
 ghost use Rattle.c_answers.specs.Answers.{AskedGiven};
 ghost use Rattle.c_bursts.specs.Bursts.{ByteGiven, MagAngleGiven};
 ghost use Rattle.c_bursts.specs.Seconds.{burstRange, BurstSamplesGiven};
-ghost use Rattle.c_bursts.specs.inner.Answers.{rangeNumber};
+ghost use Rattle.c_bursts.specs.inner.Answers.{unpackedNumber};
 use c_answers::NO_SUCH_PLACE;
 use c_answers::hand_byte;
 use c_answers::hand_count;
@@ -88,7 +88,7 @@ pub extern "C" fn lpmag_snapshot_angle(
 
 // The range of an answer, or the number of its words.
 fn hand_range(answer: Unpacked) -> u8
-    ensures { λ n. ⌜ n ≡ rangeNumber answer ⌝ }
+    ensures { λ n. ⌜ n ≡ unpackedNumber answer ⌝ }
 {
     match answer {
         Unpacked::Range(range) => range,

@@ -12,11 +12,11 @@ use Rattle.c_answers.specs.Answers.{noSuchBin}
 abbrev pub isDivisor : ℕ → Bool
 isDivisor d = eqb d 1 || (eqb d 8 || eqb d 16)
 
-abbrev pub range : ℕ → ℕ → Range
-range l h = record { low = l; high = h }
+abbrev pub rangeFrom : ℕ → ℕ → Range
+rangeFrom l h = record { low = l; high = h }
 
 abbrev pub sumOf : ℕ → ℕ → ℕ → ℕ → Range
-sumOf l h k i = added (range l h) (range k i)
+sumOf l h k i = added (rangeFrom l h) (rangeFrom k i)
 
 -- an angle, or "no such bin"
 abbrev pub angleNumber : ℕ → ℕ → ℕ

@@ -17,8 +17,8 @@ pub record LaidGiven (code : ℕ) (science c : List ℕ) (n : ℕ) (c′ : List 
   pub written : c′ ≡ cond (layable code science c) (laidFrame code science c) c
 
 -- the byte of a cell, or the number lent as found
-abbrev pub ByteGiven : List ℕ → ℕ → ℕ → ℕ → ℕ → ℕ → Type 0
-ByteGiven c held p = ValueGiven (isCell c held p) (holdsCell held p) (getD c p 0)
+abbrev pub CellGiven : List ℕ → ℕ → ℕ → ℕ → ℕ → ℕ → Type 0
+CellGiven c held p = ValueGiven (isCell c held p) (holdsCell held p) (getD c p 0)
 
 -- how many samples a bin has, or LPMAG_NO_SUCH_BIN
 abbrev pub binSamples : ℕ → ℕ

@@ -2,7 +2,7 @@
 ghost use mathlib.Core.Path.{_≡_};
 ghost use Rattle.electrons.specs.Questions.{totalCell, rateCell, sampleAsked, threeAsked, headerAsked};
 ghost use Rattle.c_answers.specs.Answers.{AskedGiven};
-ghost use Rattle.c_electrons.specs.Electrons.{LaidGiven, ByteGiven, binSamples};
+ghost use Rattle.c_electrons.specs.Electrons.{LaidGiven, CellGiven, binSamples};
 use c_answers::NO_SUCH_BIN;
 use c_answers::NO_SUCH_PLACE;
 use c_answers::hand_byte;
@@ -22,7 +22,7 @@ pub extern "C" fn lpmag_lay_electrons(code: u8, science: &[u8], cells: &mut [u8]
 
 #[no_mangle]
 pub extern "C" fn lpmag_cell(cells: &[u8], held: u64, cell: usize, byte: &mut u8) -> u8
-    ensures { λ n. ⌜ ByteGiven (now (cells .entry)) held cell (now (byte .entry)) n (now (byte .exit)) ⌝ }
+    ensures { λ n. ⌜ CellGiven (now (cells .entry)) held cell (now (byte .entry)) n (now (byte .exit)) ⌝ }
 {
     hand_byte(cells::cell(cells, held, cell), byte)
 }

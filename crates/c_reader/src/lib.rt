@@ -1,6 +1,6 @@
 // The reader, for C: the state and the report are structs, lent. include/lpmag.h documents each function.
 ghost use Rattle.reader.specs.Buffers.{buffers};
-ghost use Rattle.calls.specs.Reading.{back, backClosed, StepGiven, FinishGiven};
+ghost use Rattle.calls.specs.Reading.{handedBack, backClosed, StepGiven, FinishGiven};
 use shapes::CClosed;
 use shapes::CReport;
 use shapes::CState;
@@ -21,7 +21,7 @@ pub extern "C" fn lpmag_step(
     ensures { λ n. ⌜ StepGiven (now (state .entry)) (now (report .entry))
         (buffers (now («open_cells» .entry)) (now («finished_cells» .entry)) (now («open_samples» .entry)) (now («finished_samples» .entry))
         (now («open_snapshot» .entry)) (now («first_snapshot» .entry)) (now («second_snapshot» .entry)))
-        (now (r .entry)) (back n (now (state .exit)) (now (report .exit)))
+        (now (r .entry)) (handedBack n (now (state .exit)) (now (report .exit)))
         (buffers (now («open_cells» .exit)) (now («finished_cells» .exit)) (now («open_samples» .exit)) (now («finished_samples» .exit))
         (now («open_snapshot» .exit)) (now («first_snapshot» .exit)) (now («second_snapshot» .exit))) ⌝ }
 {

@@ -6,11 +6,11 @@ use mathlib.Core.List.{List}
 use mathlib.Core.Path.{_≡_}
 use lib.ListN.{length}
 use Rattle.buffers.specs.Laying.{patch, hasRoom}
-use Rattle.listing.specs.Refusals.{wordsOf, meaning, meaningSize}
+use Rattle.listing.specs.Refusals.{wordsOf, meaningText, meaningSize}
 
 -- LPMAG_VERSION: 2.0
-abbrev pub version : ℕ
-version = 200
+abbrev pub libraryVersion : ℕ
+libraryVersion = 200
 
 abbrev pub roomy : List ℕ → Bool
 roomy room = hasRoom (length room) 0 meaningSize
@@ -19,4 +19,4 @@ roomy room = hasRoom (length room) 0 meaningSize
 -- 0, and the room as found
 pub record WordsGiven (number : ℕ) (room : List ℕ) (n : ℕ) (room′ : List ℕ) : Type 0 where
   pub size : n ≡ cond (roomy room) (length (wordsOf number)) 0
-  pub written : room′ ≡ cond (roomy room) (patch room 0 (meaning number)) room
+  pub written : room′ ≡ cond (roomy room) (patch room 0 (meaningText number)) room

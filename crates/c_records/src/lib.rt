@@ -5,14 +5,14 @@ ghost use Rattle.record.specs.Layout.{packetSize, packetBytes};
 ghost use Rattle.record.specs.Rules.{broken};
 ghost use Rattle.calls.specs.Contents.{FieldsGiven, backFields};
 ghost use Rattle.c_answers.specs.Answers.{Given};
-ghost use Rattle.c_records.specs.Records.{version, WordsGiven};
+ghost use Rattle.c_records.specs.Records.{libraryVersion, WordsGiven};
 use record::Record;
 use record::Verdict;
 use shapes::CFields;
 
 #[no_mangle]
 pub extern "C" fn lpmag_version() -> u32
-    ensures { λ n. ⌜ n ≡ version ⌝ }
+    ensures { λ n. ⌜ n ≡ libraryVersion ⌝ }
 {
     200
 }

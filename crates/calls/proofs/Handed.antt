@@ -22,7 +22,7 @@ use Rattle.shapes.specs.declared.states.CState.{CState}
 use Rattle.shapes.specs.declared.closed.CClosed.{CClosed}
 use Rattle.shapes.specs.declared.closed.CReport.{CReport}
 use Rattle.shapes.specs.declared.closed.CFed.{CFed}
-use Rattle.calls.specs.Reading.{back, backClosed, handedBy, handed, handedEnd, handedClosed, StepGiven, FinishGiven}
+use Rattle.calls.specs.Reading.{handedBack, backClosed, handedBy, handed, handedEnd, handedClosed, StepGiven, FinishGiven}
 use Rattle.calls.specs.inner.Handing.{notZero, numbered, handedAs}
 use Rattle.calls.specs.Feeding.{ready, backFed, handedFed, FeedGiven}
 use Rattle.calls.specs.declared.stepping.CStepped.{CStepped}
@@ -67,7 +67,7 @@ handed-so i s p = ap (λ (a : Answer). handedBy a (decidedOf i .stepped) s p) (n
 
 module _ (s : CState) (b : Buffers) where
   module _ (p : CReport) (r : List ℕ) where
-    pub step-unread : isState s ≡ false → StepGiven s p b r (back 1 s p) b
+    pub step-unread : isState s ≡ false → StepGiven s p b r (handedBack 1 s p) b
     step-unread e = record { number = chosen (isState s) false _ _ e; result = chosen (isState s) false _ _ e; left = chosen (isState s) false _ _ e }
 
     pub step-given : isState s ≡ true → (x : Stepped) (b′ : Buffers) → StepIs (stateIn s) b r x b′ → (y : CStepped) → y ≡ handedAs x s p

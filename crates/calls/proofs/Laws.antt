@@ -28,7 +28,7 @@ use Rattle.shapes.specs.declared.closed.CReport.{CReport}
 use Rattle.shapes.specs.declared.closed.CFed.{CFed}
 use Rattle.c_answers.proofs.Single.{one-value}
 use Rattle.calls.specs.Contents.{FieldsGiven, backFields}
-use Rattle.calls.specs.Reading.{back, backClosed, handed, handedClosed, StepGiven, FinishGiven}
+use Rattle.calls.specs.Reading.{handedBack, backClosed, handed, handedClosed, StepGiven, FinishGiven}
 use Rattle.calls.specs.Feeding.{ready, fedFrom, backFed, handedFed, FeedGiven}
 use Rattle.calls.specs.Frames.{NominalGiven}
 use Rattle.calls.specs.declared.contents.CContents.{CContents}
@@ -63,18 +63,18 @@ fields-kept c r y is z =
 
 module _ (s : CState) (b b′ : Buffers) where
   module _ (p : CReport) (r : List ℕ) (y : CStepped) (is : StepGiven s p b r y b′) (z : y .answer ≡ 0 → ⊥) where
-    pub step-kept : (y ≡ back (y .answer) s p) × (b′ ≡ b)
+    pub step-kept : (y ≡ handedBack (y .answer) s p) × (b′ ≡ b)
     unfolding handed
     step-kept = go (isState s) (is .number) (is .result) (is .left)
       where
         go : (t : Bool) → y .answer ≡ cond t (numberOf (input (stateIn s) b r)) 1
-            → y ≡ cond t (handed (decidedOf (input (stateIn s) b r) .stepped) s p) (back 1 s p)
-            → b′ ≡ cond t (stepped (stateIn s) b r) b → (y ≡ back (y .answer) s p) × (b′ ≡ b)
+            → y ≡ cond t (handed (decidedOf (input (stateIn s) b r) .stepped) s p) (handedBack 1 s p)
+            → b′ ≡ cond t (stepped (stateIn s) b r) b → (y ≡ handedBack (y .answer) s p) × (b′ ≡ b)
         go true n e l =
             let q = refused-is (input (stateIn s) b r) (λ o. z (n ∙ o)) in
             let f = e ∙ ap (λ (x : Decided). handed (x .stepped) s p) q in
-            (f ∙ sym (ap (λ (x : CStepped). back (x .answer) s p) f), l ∙ ap (λ (x : Decided). worked (x .works) (packetBytes r) b) q)
-        go false n e l = (e ∙ sym (ap (λ (x : CStepped). back (x .answer) s p) e), l)
+            (f ∙ sym (ap (λ (x : CStepped). handedBack (x .answer) s p) f), l ∙ ap (λ (x : Decided). worked (x .works) (packetBytes r) b) q)
+        go false n e l = (e ∙ sym (ap (λ (x : CStepped). handedBack (x .answer) s p) e), l)
 
   module _ (p : CClosed) (y : CFinished) (is : FinishGiven s p b y b′) (z : y .answer ≡ 0 → ⊥) where
     pub finish-kept : (y ≡ backClosed (y .answer) s p) × (b′ ≡ b)

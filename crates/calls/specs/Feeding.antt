@@ -6,7 +6,7 @@ use mathlib.Core.List.{List}
 use mathlib.Core.Path.{_≡_}
 use Rattle.state.specs.Soundness.{sound}
 use Rattle.reader.specs.Buffers.{Buffers, sized}
-use Rattle.feed.specs.Feeding.{Desk, begun, desk, feedAll}
+use Rattle.feed.specs.Feeding.{Desk, nothingFed, desk, feedAll}
 use Rattle.feed.specs.declared.feeding.Fed.{Fed}
 use Rattle.shapes.specs.States.{isState, stateIn, stateOut}
 use Rattle.shapes.specs.Closed.{fedOut}
@@ -23,7 +23,7 @@ ready s b = readyBy s (sized b)
 
 -- the records from place 0 on
 abbrev pub fedFrom : CState → Buffers → List ℕ → Desk
-fedFrom s b bytes = feedAll bytes (desk (begun (stateIn s) 0) b)
+fedFrom s b bytes = feedAll bytes (desk (nothingFed (stateIn s) 0) b)
 
 -- an answer, and what stands behind the two pointers after it
 abbrev pub backFed : ℕ → CState → CFed → CFeeding

@@ -23,16 +23,16 @@ use Rattle.calls.specs.declared.stepping.CStepped.{CStepped}
 use Rattle.calls.specs.declared.stepping.CFinished.{CFinished}
 
 -- an answer, and what stands behind the two pointers after it
-abbrev pub back : ℕ → CState → CReport → CStepped
-back n s p = record { answer = n; state = s; report = p }
+abbrev pub handedBack : ℕ → CState → CReport → CStepped
+handedBack n s p = record { answer = n; state = s; report = p }
 
 abbrev pub backClosed : ℕ → CState → CClosed → CFinished
 backClosed n s c = record { answer = n; state = s; closed = c }
 
 -- of an accepted record the state after it and its report; a refusal leaves both as found
 abbrev pub handedBy : Answer → Stepped → CState → CReport → CStepped
-handedBy (Refused n) x s p = back n s p
-handedBy (Accepted t) x s p = back 0 (stateOut (x .state)) (reportOut t (x .closed))
+handedBy (Refused n) x s p = handedBack n s p
+handedBy (Accepted t) x s p = handedBack 0 (stateOut (x .state)) (reportOut t (x .closed))
 
 unfoldable pub handed : Stepped → CState → CReport → CStepped
 handed x = handedBy (x .answer) x
@@ -48,7 +48,7 @@ handedClosed x = handedEnd (x .ending) x
 -- is no state
 pub record StepGiven (s : CState) (p : CReport) (b : Buffers) (r : List ℕ) (y : CStepped) (b′ : Buffers) : Type 0 where
   pub number : y .answer ≡ cond (isState s) (numberOf (input (stateIn s) b r)) 1
-  pub result : y ≡ cond (isState s) (handed (decidedOf (input (stateIn s) b r) .stepped) s p) (back 1 s p)
+  pub result : y ≡ cond (isState s) (handed (decidedOf (input (stateIn s) b r) .stepped) s p) (handedBack 1 s p)
   pub left : b′ ≡ cond (isState s) (stepped (stateIn s) b r) b
 
 -- finish likewise

@@ -10,7 +10,7 @@ use lib.ListN.{length}
 use borrow.Author.Tests.{eq-eqb, ne-eqb, lt-ltb, le-ltb, ltb-true, ltb-false}
 use Rattle.prelude.specs.Upto.{both, upto}
 use Rattle.prelude.proofs.Upto.{both-left, both-right, upto-at}
-use Rattle.carriage.specs.Carriage.{samplesIn, types, scienceSize, cells, threeD, rows, total, someHas, byteIn}
+use Rattle.carriage.specs.Carriage.{samplesIn, types, scienceSize, cells, threeD, rows, totalSize, someHas, byteIn}
 use Rattle.carriage.specs.Carriage.{place, carrier, byteOf, Once, rowOf, runsOf, carries, none}
 use Rattle.carriage.specs.inner.Carriers.{restSize, restCell}
 use Rattle.carriage.proofs.Placed.{place-had, had-place, first-is, first-none}
@@ -34,20 +34,20 @@ rightByte t k = both (there t k) (back (t * scienceSize + k))
 
 -- a row: 83 bytes, all there, and the 83 cells from 83 t on are all back
 right : ℕ → Bool
-right t = both (eqb (total (runsOf (rowOf t))) scienceSize) (upto (rightByte t) scienceSize)
+right t = both (eqb (totalSize (runsOf (rowOf t))) scienceSize) (upto (rightByte t) scienceSize)
 
 all-right : (t : ℕ) → t < types → T (right t)
 unfolding both right there back place typeOf restType samplesIn rows
 all-right = upto-at right types tt
 
 -- 83 cells a type
-pub total-83 : (t : ℕ) → t < types → total (runsOf (rowOf t)) ≡ scienceSize
+pub total-83 : (t : ℕ) → t < types → totalSize (runsOf (rowOf t)) ≡ scienceSize
 unfolding right
-total-83 t h = eqb→eq _ _ (both-left (eqb (total (runsOf (rowOf t))) scienceSize) _ (all-right t h))
+total-83 t h = eqb→eq _ _ (both-left (eqb (totalSize (runsOf (rowOf t))) scienceSize) _ (all-right t h))
 
 at : (t k : ℕ) → t < types → k < scienceSize → T (rightByte t k)
 unfolding right
-at t k h l = upto-at (rightByte t) scienceSize (both-right (eqb (total (runsOf (rowOf t))) scienceSize) _ (all-right t h)) k l
+at t k h l = upto-at (rightByte t) scienceSize (both-right (eqb (totalSize (runsOf (rowOf t))) scienceSize) _ (all-right t h)) k l
 
 record There (t k : ℕ) : Type 0 where
   cell : place t k < cells

@@ -9,7 +9,7 @@ use lib.Dec.{eqb, ltb, leb}
 use borrow.Author.Tests.{eqb-true, eqb-false, ltb-true, ltb-false, leb-true, lt-ltb, le-ltb, le-leb, lt-leb, ne-eqb}
 use Rattle.prelude.proofs.Conds.{two, second}
 use Rattle.record.specs.declared.Record.{Record}
-use Rattle.clock.specs.Clock.{circle, turns, counts, turnOf, ownOf, ahead, farthest, later, turnAt, turnFits, countOf, arrivalAt}
+use Rattle.clock.specs.Clock.{circle, turns, fullCounts, turnOf, ownOf, ahead, farthest, later, turnAt, turnFits, countOf, arrivalAt}
 use Rattle.clock.specs.Clock.{isLater, hasTurn, dated, accepted, unset, begun, clockSound}
 use Rattle.clock.specs.declared.Clock.{Clock}
 use Rattle.clock.specs.declared.Arrival.{Arrival}
@@ -74,13 +74,13 @@ module _ (c : Clock) (n : ℕ) (a : c .any ≡ true) where
       go false t = omega (arith, ltb-false (ownOf n) (ownOf (c .last)) t, later-ahead l)
 
   -- the turn is past the last where that is 2^36 or more
-  turn-fits : later c n ≡ true → turnFits c n ≡ ltb (c .last + ahead c n) counts
+  turn-fits : later c n ≡ true → turnFits c n ≡ ltb (c .last + ahead c n) fullCounts
   unfolding turnFits countOf
   turn-fits l = go (ltb (turnAt c n) turns) refl
     where
-      go : (t : Bool) → ltb (turnAt c n) turns ≡ t → t ≡ ltb (c .last + ahead c n) counts
-      go true t = sym (lt-ltb (c .last + ahead c n) counts (omega (arith, ltb-true (turnAt c n) turns t, ahead-is l)))
-      go false t = sym (le-ltb (c .last + ahead c n) counts (omega (arith, ltb-false (turnAt c n) turns t, ahead-is l)))
+      go : (t : Bool) → ltb (turnAt c n) turns ≡ t → t ≡ ltb (c .last + ahead c n) fullCounts
+      go true t = sym (lt-ltb (c .last + ahead c n) fullCounts (omega (arith, ltb-true (turnAt c n) turns t, ahead-is l)))
+      go false t = sym (le-ltb (c .last + ahead c n) fullCounts (omega (arith, ltb-false (turnAt c n) turns t, ahead-is l)))
 
   -- where it arrives, by how far it lies ahead
   pub comes-again : ahead c n ≡ 0 → arrivalAt c n ≡ NotLater
@@ -95,13 +95,13 @@ module _ (c : Clock) (n : ℕ) (a : c .any ≡ true) where
     is-later : later c n ≡ true
     is-later = later-is ∙ rw (le-leb 1 (ahead c n) p, le-leb (ahead c n) farthest q)
 
-    pub comes-past : counts ≤ c .last + ahead c n → arrivalAt c n ≡ PastTurns
+    pub comes-past : fullCounts ≤ c .last + ahead c n → arrivalAt c n ≡ PastTurns
     unfolding arrivalAt
-    comes-past h = rw (is-later, turn-fits is-later, le-ltb (c .last + ahead c n) counts h)
+    comes-past h = rw (is-later, turn-fits is-later, le-ltb (c .last + ahead c n) fullCounts h)
 
-    pub comes-at : c .last + ahead c n < counts → arrivalAt c n ≡ At (c .last + ahead c n)
+    pub comes-at : c .last + ahead c n < fullCounts → arrivalAt c n ≡ At (c .last + ahead c n)
     unfolding arrivalAt
-    comes-at h = rw (is-later, turn-fits is-later, lt-ltb (c .last + ahead c n) counts h, ahead-is is-later)
+    comes-at h = rw (is-later, turn-fits is-later, lt-ltb (c .last + ahead c n) fullCounts h, ahead-is is-later)
 
 -- and before that, in turn 0
 pub comes-first : (c : Clock) (n : ℕ) → c .any ≡ false → arrivalAt c n ≡ At (ownOf n)
@@ -114,13 +114,13 @@ unfolding isLater dated
 dated-above c f l a = omega (arith, ahead-is c (f .count) a l, later-ahead c (f .count) a l)
 
 -- the counts of the state stay below their bound
-pub dated-below : (c : Clock) (f : Record) → hasTurn c f ≡ true → dated c f < counts
+pub dated-below : (c : Clock) (f : Record) → hasTurn c f ≡ true → dated c f < fullCounts
 unfolding hasTurn turnFits dated countOf
 dated-below c f e = omega (arith, ltb-true (turnAt c (f .count)) turns e)
 
-pub last-below : (c : Clock) → clockSound c ≡ true → c .last < counts
+pub last-below : (c : Clock) → clockSound c ≡ true → c .last < fullCounts
 unfolding clockSound
-last-below c e = ltb-true (c .last) counts (two (ltb (c .last) counts) _ e .0)
+last-below c e = ltb-true (c .last) fullCounts (two (ltb (c .last) fullCounts) _ e .0)
 
 -- 14's test in other words: the count is below the last one's 24 bits and the last turn is 4,095
 pub past-is : (c : Clock) (f : Record) → clockSound c ≡ true
@@ -145,12 +145,12 @@ pub record Follows (c : Clock) (d : ℕ) : Type 0 where
   pub above : c .any ≡ true → c .last < d
   pub near : c .any ≡ true → d ≤ c .last + farthest
   pub first : c .any ≡ false → d < circle
-  pub small : d < counts
+  pub small : d < fullCounts
 
 pub follows-none : (d : ℕ) → d < circle → Follows unset d
 follows-none d h = record { above = λ a. absurd (false≢true a); near = λ a. absurd (false≢true a); first = λ a. h; small = omega arith }
 
-pub follows-last : (c d : ℕ) → c < d → d ≤ c + farthest → d < counts → Follows (accepted c) d
+pub follows-last : (c d : ℕ) → c < d → d ≤ c + farthest → d < fullCounts → Follows (accepted c) d
 follows-last c d l n h = record { above = λ a. l; near = λ a. n; first = λ a. absurd (true≢false a); small = h }
 
 -- a record of such a count stands there
@@ -183,9 +183,9 @@ module _ (c : Clock) (d : ℕ) (h : Follows c d) where
   unfolding isLater hasTurn dated turnFits countOf
   stands f e = rw e (own-later, lt-ltb (turnAt c (ownOf d)) turns (omega (arith, own-turn, h .small)), omega (arith, own-turn))
 
-pub accepted-sound : (d : ℕ) → d < counts → clockSound (accepted d) ≡ true
+pub accepted-sound : (d : ℕ) → d < fullCounts → clockSound (accepted d) ≡ true
 unfolding clockSound
-accepted-sound d h = rw (lt-ltb d counts h)
+accepted-sound d h = rw (lt-ltb d fullCounts h)
 
 pub unset-sound : clockSound unset ≡ true
 unfolding clockSound
@@ -209,4 +209,4 @@ made any last p q = rw (p, q)
 
 pub unset-is : (c : Clock) → clockSound c ≡ true → c .any ≡ false → c ≡ unset
 unfolding clockSound
-unset-is c e a = made (c .any) (c .last) a (not-begun c (c .last) (two (ltb (c .last) counts) (begun c (c .last)) e .1) a)
+unset-is c e a = made (c .any) (c .last) a (not-begun c (c .last) (two (ltb (c .last) fullCounts) (begun c (c .last)) e .1) a)

@@ -18,8 +18,8 @@ abbrev pub turns : ℕ
 turns = 4096
 
 -- so a full count, "Turn x 2^24 + count", is "below 2^36"
-abbrev pub counts : ℕ
-counts = turns * circle
+abbrev pub fullCounts : ℕ
+fullCounts = turns * circle
 
 -- the turn of a full count, and the record's own: its 24 bits
 abbrev pub turnOf : ℕ → ℕ
@@ -78,4 +78,4 @@ begun c n = c .any || eqb n 0
 
 -- the clock's part of the state list: with the last count its turn is 0 until something is accepted
 unfoldable pub clockSound : Clock → Bool
-clockSound c = ltb (c .last) counts && begun c (c .last)
+clockSound c = ltb (c .last) fullCounts && begun c (c .last)

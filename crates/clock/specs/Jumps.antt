@@ -16,8 +16,8 @@ pub data Jump : Type 0 where
 unfoldable pub Jumps : Jump → Type 0
 Jumps (jump c n a) = arrivalAt c n ≡ a
 
-unfoldable pub table : List Jump
-table =
+unfoldable pub jumpTable : List Jump
+jumpTable =
     -- the first record has turn 0, whatever its count
     jump unset 16777215 (At 16777215)
     -- the next count, the same once more, and one that was delayed by five counts

@@ -16,7 +16,7 @@ const CIRCLE: u64 = 16777216;
 const FARTHEST: u64 = 8388607;
 
 // Full counts of the state are below it: 2^36.
-pub const COUNTS: u64 = 68719476736;
+pub const FULL_COUNTS: u64 = 68719476736;
 
 // The full count at which a record stands; or it isn't later; or its turn would be past the last.
 pub enum Arrival {
@@ -62,7 +62,7 @@ pub fn arrival_of(clock: Clock, count: u32) -> Arrival
     if FARTHEST < ahead {
         return Arrival::NotLater;
     }
-    if COUNTS - ahead <= clock.last {
+    if FULL_COUNTS - ahead <= clock.last {
         return Arrival::PastTurns;
     }
     Arrival::At(clock.last + ahead)
@@ -82,7 +82,7 @@ pub fn begun(clock: Clock, n: u64) -> bool
 pub fn is_sound(clock: Clock) -> bool
     ensures { λ b. ⌜ b ≡ clockSound clock ⌝ }
 {
-    if COUNTS <= clock.last {
+    if FULL_COUNTS <= clock.last {
         return false;
     }
     begun(clock, clock.last)

@@ -8,7 +8,7 @@ use lib.Dec.{T, eqb, leb, eqb→eq, leb→le}
 use borrow.Author.Tests.{eq-eqb, ne-eqb}
 use Rattle.prelude.specs.Upto.{both}
 use Rattle.prelude.proofs.Upto.{both-left, both-right, upto-at}
-use Rattle.counts.specs.Codes.{lowest, highest, counts}
+use Rattle.counts.specs.Codes.{codeLow, codeHigh, codedCounts}
 
 -- the n-th of a code's mantissas from 16 on, shifted
 abbrev shifted : ℕ → ℕ → ℕ
@@ -16,20 +16,20 @@ shifted n c = (n + c % 16) * 2 ^ (c / 16 - 1)
 
 right : ℕ → Bool
 right c =
-    both (leb (lowest c) (highest c))
-    (both (eqb (lowest (suc c)) (suc (highest c)))
-    (both (leb (suc (highest c)) counts)
+    both (leb (codeLow c) (codeHigh c))
+    (both (eqb (codeLow (suc c)) (suc (codeHigh c)))
+    (both (leb (suc (codeHigh c)) codedCounts)
     (both (eqb (shifted 16 c % 2 ^ 64) (shifted 16 c))
     (both (eqb (shifted 17 c % 2 ^ 64) (shifted 17 c)) (leb 1 (shifted 17 c))))))
 
 all-right : (c : ℕ) → c < 256 → T (right c)
-unfolding both right lowest highest
+unfolding both right codeLow codeHigh
 all-right = upto-at right 256 tt
 
 pub record Code (c : ℕ) : Type 0 where
-  pub full : lowest c ≤ highest c
-  pub next : lowest (suc c) ≡ suc (highest c)
-  pub small : highest c < counts
+  pub full : codeLow c ≤ codeHigh c
+  pub next : codeLow (suc c) ≡ suc (codeHigh c)
+  pub small : codeHigh c < codedCounts
   pub low-kept : shifted 16 c % 2 ^ 64 ≡ shifted 16 c
   pub high-kept : shifted 17 c % 2 ^ 64 ≡ shifted 17 c
   pub high-some : 1 ≤ shifted 17 c
@@ -38,14 +38,14 @@ pub code : (c : ℕ) → c < 256 → Code c
 unfolding right
 code c h =
     let t1 = all-right c h in
-    let t2 = both-right (leb (lowest c) (highest c)) _ t1 in
-    let t3 = both-right (eqb (lowest (suc c)) (suc (highest c))) _ t2 in
-    let t4 = both-right (leb (suc (highest c)) counts) _ t3 in
+    let t2 = both-right (leb (codeLow c) (codeHigh c)) _ t1 in
+    let t3 = both-right (eqb (codeLow (suc c)) (suc (codeHigh c))) _ t2 in
+    let t4 = both-right (leb (suc (codeHigh c)) codedCounts) _ t3 in
     let t5 = both-right (eqb (shifted 16 c % 2 ^ 64) (shifted 16 c)) _ t4 in
     record {
-      full = leb→le _ _ (both-left (leb (lowest c) (highest c)) _ t1);
-      next = eqb→eq _ _ (both-left (eqb (lowest (suc c)) (suc (highest c))) _ t2);
-      small = leb→le _ _ (both-left (leb (suc (highest c)) counts) _ t3);
+      full = leb→le _ _ (both-left (leb (codeLow c) (codeHigh c)) _ t1);
+      next = eqb→eq _ _ (both-left (eqb (codeLow (suc c)) (suc (codeHigh c))) _ t2);
+      small = leb→le _ _ (both-left (leb (suc (codeHigh c)) codedCounts) _ t3);
       low-kept = eqb→eq _ _ (both-left (eqb (shifted 16 c % 2 ^ 64) (shifted 16 c)) _ t4);
       high-kept = eqb→eq _ _ (both-left (eqb (shifted 17 c % 2 ^ 64) (shifted 17 c)) _ t5);
       high-some = leb→le _ _ (both-right (eqb (shifted 17 c % 2 ^ 64) (shifted 17 c)) _ t5);
@@ -53,21 +53,21 @@ code c h =
 
 module _ (c : ℕ) where
   -- an exponent of 0
-  pub low-small : c / 16 ≡ 0 → c % 16 ≡ lowest c
-  unfolding lowest
+  pub low-small : c / 16 ≡ 0 → c % 16 ≡ codeLow c
+  unfolding codeLow
   low-small e = rw (eq-eqb (c / 16) 0 e)
 
-  pub high-small : c / 16 ≡ 0 → c % 16 ≡ highest c
-  unfolding highest
+  pub high-small : c / 16 ≡ 0 → c % 16 ≡ codeHigh c
+  unfolding codeHigh
   high-small e = rw (eq-eqb (c / 16) 0 e)
 
   -- an exponent above it
-  pub low-shifted : c < 256 → (c / 16 ≡ 0 → ⊥) → shifted 16 c % 2 ^ 64 ≡ lowest c
-  unfolding lowest
+  pub low-shifted : c < 256 → (c / 16 ≡ 0 → ⊥) → shifted 16 c % 2 ^ 64 ≡ codeLow c
+  unfolding codeLow
   low-shifted h n = code c h .low-kept ∙ rw (ne-eqb (c / 16) 0 n)
 
-  pub high-shifted : c < 256 → (c / 16 ≡ 0 → ⊥) → shifted 17 c % 2 ^ 64 - 1 ≡ highest c
-  unfolding highest
+  pub high-shifted : c < 256 → (c / 16 ≡ 0 → ⊥) → shifted 17 c % 2 ^ 64 - 1 ≡ codeHigh c
+  unfolding codeHigh
   high-shifted h n = rw (code c h .high-kept, ne-eqb (c / 16) 0 n)
 
   pub can-go-down : c < 256 → 1 ≤ shifted 17 c % 2 ^ 64

@@ -7,24 +7,24 @@ use native.Mathlib.Omega.{arith}
 use native.Mathlib.Decide.{decLt}
 use lib.Dec.{leb}
 use borrow.Author.Tests.{leb-true, leb-false}
-use Rattle.counts.specs.Codes.{lowest, highest, Lies, counts, OneCode, divisor, rangeOf}
+use Rattle.counts.specs.Codes.{codeLow, codeHigh, Lies, codedCounts, OneCode, divisor, rangeOf}
 use Rattle.counts.specs.declared.codes.Divided.{Divided}
 use Rattle.counts.specs.declared.codes.Divided.the-variants.{By1, By8, By16}
 use Rattle.counts.specs.declared.Range.{Range}
 use Rattle.counts.proofs.EachCode.{code}
 
 -- a later code's range starts past an earlier one's end
-past : (c k : ℕ) → c + k < 256 → highest c < lowest (suc (c + k))
-past c zero h = let e : c + 0 ≡ c = omega arith in subst (λ (n : ℕ). highest c < lowest (suc n)) (sym e) (omega (arith, code c (omega arith) .next))
+past : (c k : ℕ) → c + k < 256 → codeHigh c < codeLow (suc (c + k))
+past c zero h = let e : c + 0 ≡ c = omega arith in subst (λ (n : ℕ). codeHigh c < codeLow (suc n)) (sym e) (omega (arith, code c (omega arith) .next))
 past c (suc k) h =
     let e : c + suc k ≡ suc (c + k) = omega arith in
     let n = code (suc (c + k)) (omega arith) in
-    subst (λ (n : ℕ). highest c < lowest (suc n)) (sym e) (omega (arith, past c k (omega arith), n .full, n .next))
+    subst (λ (n : ℕ). codeHigh c < codeLow (suc n)) (sym e) (omega (arith, past c k (omega arith), n .full, n .next))
 
-apart : (c d n : ℕ) → d < 256 → n ≤ highest c → lowest d ≤ n → c < d → ⊥
+apart : (c d n : ℕ) → d < 256 → n ≤ codeHigh c → codeLow d ≤ n → c < d → ⊥
 apart c d n h u l k =
     let e : suc (c + (d - suc c)) ≡ d = omega arith in
-    let p : highest c < lowest d = subst (λ (x : ℕ). highest c < lowest x) e (past c (d - suc c) (omega arith)) in
+    let p : codeHigh c < codeLow d = subst (λ (x : ℕ). codeHigh c < codeLow x) e (past c (d - suc c) (omega arith)) in
     omega arith
 
 once : (c d n : ℕ) → c < 256 → d < 256 → Lies c n → Lies d n → c ≡ d
@@ -38,28 +38,28 @@ once c d n hc hd p q = go (decLt c d) (decLt d c)
 -- the highest code up to c whose range starts at or below n
 abbrev upTo : ℕ → ℕ → ℕ
 upTo zero n = 0
-upTo (suc c) n = cond (leb (lowest (suc c)) n) (suc c) (upTo c n)
+upTo (suc c) n = cond (leb (codeLow (suc c)) n) (suc c) (upTo c n)
 
-start : lowest 0 ≡ 0
-unfolding lowest
+start : codeLow 0 ≡ 0
+unfolding codeLow
 start = refl
 
-end : lowest 256 ≡ counts
-unfolding lowest
+end : codeLow 256 ≡ codedCounts
+unfolding codeLow
 end = refl
 
 abbrev Found : ℕ → ℕ → Type 0
 Found c n = Lies (upTo c n) n × (upTo c n ≤ c)
 
-found : (c n : ℕ) → c < 256 → n < lowest (suc c) → Found c n
+found : (c n : ℕ) → c < 256 → n < codeLow (suc c) → Found c n
 found zero n h l = ((omega (arith, start), omega (arith, code 0 h .next)), omega arith)
-found (suc c) n h l = go (leb (lowest (suc c)) n) refl (found c n (omega arith))
+found (suc c) n h l = go (leb (codeLow (suc c)) n) refl (found c n (omega arith))
   where
-    go : (b : Bool) → leb (lowest (suc c)) n ≡ b → (n < lowest (suc c) → Found c n) → Found (suc c) n
-    go true e r = rw e ((leb-true (lowest (suc c)) n e, omega (arith, code (suc c) h .next)), omega arith)
-    go false e r = let q = r (leb-false (lowest (suc c)) n e) in rw e (q .0, omega (arith, q .1))
+    go : (b : Bool) → leb (codeLow (suc c)) n ≡ b → (n < codeLow (suc c) → Found c n) → Found (suc c) n
+    go true e r = rw e ((leb-true (codeLow (suc c)) n e, omega (arith, code (suc c) h .next)), omega arith)
+    go false e r = let q = r (leb-false (codeLow (suc c)) n e) in rw e (q .0, omega (arith, q .1))
 
-pub one-code : (n : ℕ) → n < counts → OneCode n
+pub one-code : (n : ℕ) → n < codedCounts → OneCode n
 one-code n h =
     let f = found 255 n (omega arith) (omega (arith, end)) in
     let b : upTo 255 n < 256 = omega (arith, f .1) in
@@ -89,15 +89,15 @@ pub record Fitting (n l h : ℕ) : Type 0 where
   pub low : n * l < 8388608
   pub high : n * h < 8388608
 
-small : (d : Divided) (l h : ℕ) → l ≤ h → h < counts → Fitting (divisor d) l h
+small : (d : Divided) (l h : ℕ) → l ≤ h → h < codedCounts → Fitting (divisor d) l h
 unfolding divisor
 small By1 l h k m = record { some = omega arith; few = omega arith; low = omega arith; high = omega arith }
 small By8 l h k m = record { some = omega arith; few = omega arith; low = omega arith; high = omega arith }
 small By16 l h k m = record { some = omega arith; few = omega arith; low = omega arith; high = omega arith }
 
-module _ (c : ℕ) (d : Divided) (n l h : ℕ) (en : n ≡ divisor d) (el : l ≡ lowest c) (eh : h ≡ highest c) where
+module _ (c : ℕ) (d : Divided) (n l h : ℕ) (en : n ≡ divisor d) (el : l ≡ codeLow c) (eh : h ≡ codeHigh c) where
   pub fitting : c < 256 → Fitting n l h
-  fitting b = rw (en, el, eh) (small d (lowest c) (highest c) (code c b .full) (code c b .small))
+  fitting b = rw (en, el, eh) (small d (codeLow c) (codeHigh c) (code c b .full) (code c b .small))
 
   pub scaled : record { low = n * l; high = n * h + (n - 1) } ≡ rangeOf c d
   unfolding rangeOf

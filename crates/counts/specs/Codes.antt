@@ -10,19 +10,19 @@ use Rattle.counts.specs.declared.Range.{Range}
 
 -- "For e = 0 the count is m. Otherwise it lies from (16 + m) x 2^(e-1) to (17 + m) x 2^(e-1) - 1", where e is c / 16 rounded
 -- down and m is c mod 16
-unfoldable pub lowest : ℕ → ℕ
-lowest c = cond (eqb (c / 16) 0) (c % 16) ((16 + c % 16) * 2 ^ (c / 16 - 1))
+unfoldable pub codeLow : ℕ → ℕ
+codeLow c = cond (eqb (c / 16) 0) (c % 16) ((16 + c % 16) * 2 ^ (c / 16 - 1))
 
-unfoldable pub highest : ℕ → ℕ
-highest c = cond (eqb (c / 16) 0) (c % 16) ((17 + c % 16) * 2 ^ (c / 16 - 1) - 1)
+unfoldable pub codeHigh : ℕ → ℕ
+codeHigh c = cond (eqb (c / 16) 0) (c % 16) ((17 + c % 16) * 2 ^ (c / 16 - 1) - 1)
 
 -- the count n lies in the range of code c
 abbrev pub Lies : ℕ → ℕ → Type 0
-Lies c n = (lowest c ≤ n) × (n ≤ highest c)
+Lies c n = (codeLow c ≤ n) × (n ≤ codeHigh c)
 
 -- "Every count from 0 to 524,287 lies in exactly one code's range."
-abbrev pub counts : ℕ
-counts = 524288
+abbrev pub codedCounts : ℕ
+codedCounts = 524288
 
 pub record OneCode (n : ℕ) : Type 0 where
   pub code : ℕ
@@ -39,7 +39,7 @@ divisor By16 = 16
 
 -- "8 x low to 8 x high + 7"; "16 x low to 16 x high + 15"; undivided, low to high
 abbrev pub times : ℕ → ℕ → Range
-times n c = record { low = n * lowest c; high = n * highest c + (n - 1) }
+times n c = record { low = n * codeLow c; high = n * codeHigh c + (n - 1) }
 
 unfoldable pub rangeOf : ℕ → Divided → Range
 rangeOf c d = times (divisor d) c

@@ -1,6 +1,6 @@
 // The range of a code (01, "Counts"; 000, section 2.6).
 ghost use mathlib.Core.Path.{_≡_};
-ghost use Rattle.counts.specs.Codes.{lowest, highest, divisor, rangeOf};
+ghost use Rattle.counts.specs.Codes.{codeLow, codeHigh, divisor, rangeOf};
 use crate::Range;
 
 // What the counts were divided by before they were compressed: pre-scaled samples by 8, Total and Rate by 16.
@@ -22,7 +22,7 @@ fn factor(divided: Divided) -> u64
 
 // A 4-bit exponent over a 4-bit mantissa with a hidden bit; the bits not sent were cut off.
 fn undivided(code: u8) -> Range
-    ensures { λ r. ⌜ (r .low ≡ lowest code) × (r .high ≡ highest code) ⌝ }
+    ensures { λ r. ⌜ (r .low ≡ codeLow code) × (r .high ≡ codeHigh code) ⌝ }
 {
     let mantissa = (code % 16) as u64;
     let exponent = code / 16;

@@ -13,7 +13,7 @@ use Rattle.cells.specs.Bytes.{rawOf}
 use Rattle.cells.specs.declared.raw.Raw.{Raw}
 use Rattle.cells.specs.declared.raw.Raw.the-variants as raw
 use Rattle.electrons.specs.Meaning.{meaning}
-use Rattle.electrons.specs.Questions.{countSaid, rangeGiven, CountIs, countAsked}
+use Rattle.electrons.specs.Questions.{countSaid, countsGiven, CountIs, countAsked}
 use Rattle.electrons.specs.declared.questions.Count.{Count}
 use Rattle.electrons.specs.declared.questions.Count.the-variants.{Within}
 use Rattle.electrons.specs.declared.scale.Scale.{Scale}
@@ -28,7 +28,7 @@ counted-told w k code d r ew ek er = rw (ew, ek, er)
 pub meant : (x y n h : Bool) (code : ℕ) (d : Divided)
     → CountIs (record { place = x && true; held = y; known = n || h; range = rangeOf code d })
     (meaning (cond (x && true) (cond y (raw.Byte code) raw.Absent) raw.NoSuchPlace) (cond (n || (x && h)) (Known d) Unknown))
-unfolding countSaid rangeGiven
+unfolding countSaid countsGiven
 meant true true true h code d = record { is = refl; says = refl; range = refl }
 meant true true false true code d = record { is = refl; says = refl; range = refl }
 meant true true false false code d = record { is = refl; says = refl; range = refl }
@@ -38,7 +38,7 @@ meant false y n h code d = record { is = refl; says = refl; range = refl }
 -- and from one that there isn't
 pub nowhere : (x y k : Bool) (r : Range) (w : Raw) (s : Scale)
     → CountIs (record { place = x && false; held = y; known = k; range = r }) (meaning (cond (x && false) w raw.NoSuchPlace) s)
-unfolding countSaid rangeGiven
+unfolding countSaid countsGiven
 nowhere true y k r w s = record { is = refl; says = refl; range = refl }
 nowhere false y k r w s = record { is = refl; says = refl; range = refl }
 

@@ -29,8 +29,8 @@ pub record Asked : Type 0 where
 abbrev pub answer : Asked → Count
 answer q = cond (q .place) (cond (q .held) (cond (q .known) (Within (q .range)) ScaleUnknown) Absent) NoSuchPlace
 
-abbrev pub words : Asked → Words
-words q = said (q .place) (q .held) (q .known)
+abbrev pub askedWords : Asked → Words
+askedWords q = said (q .place) (q .held) (q .known)
 
 -- whether the answer is a range
 abbrev pub gives : Asked → Bool
@@ -43,17 +43,17 @@ countSaid ScaleUnknown = scaleUnknown
 countSaid Absent = absent
 countSaid NoSuchPlace = noSuchPlace
 
-unfoldable pub rangeGiven : Count → Option Range
-rangeGiven (Within r) = some r
-rangeGiven ScaleUnknown = none
-rangeGiven Absent = none
-rangeGiven NoSuchPlace = none
+unfoldable pub countsGiven : Count → Option Range
+countsGiven (Within r) = some r
+countsGiven ScaleUnknown = none
+countsGiven Absent = none
+countsGiven NoSuchPlace = none
 
 -- one answer; and its words and range, which follow
 pub record CountIs (q : Asked) (x : Count) : Type 0 where
   pub is : x ≡ answer q
-  pub says : countSaid x ≡ words q
-  pub range : rangeGiven x ≡ cond (gives q) (some (q .range)) none
+  pub says : countSaid x ≡ askedWords q
+  pub range : countsGiven x ≡ cond (gives q) (some (q .range)) none
 
 -- a byte whose counts were divided by a known number: of 3D, Total and Rate, and all of a snapshot (000, sections 2.3.1 and 2.4.1)
 abbrev pub countAsked : Bool → Bool → ℕ → Divided → Asked

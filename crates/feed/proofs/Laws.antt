@@ -12,7 +12,7 @@ use borrow.Author.Tests.{le-leb, lt-leb}
 use Rattle.buffers.specs.Laying.{patch}
 use Rattle.record.specs.Layout.{size}
 use Rattle.feed.specs.Cutting.{recordAt, isWhole, RestIs}
-use Rattle.feed.specs.Feeding.{begun, isQuiet, quiet, Desk, next, feedUpTo, wholeFrom, feedAll}
+use Rattle.feed.specs.Feeding.{nothingFed, isQuiet, quiet, Desk, fedOne, feedUpTo, wholeFrom, feedAll}
 use Rattle.feed.proofs.Cuts.{record-room, whole-fits, whole-left}
 use Rattle.feed.proofs.Rests.{between, in-order}
 use Rattle.feed.proofs.Turns.{loud, feed-more}
@@ -25,16 +25,16 @@ module _ (bytes : List ℕ) where
 
   rests : (n : ℕ) (d : Desk) → n ≡ wholeFrom bytes (d .fed .at) → quiet (feedUpTo n bytes d .fed) ≡ true
       → isWhole (length bytes) (feedUpTo n bytes d .fed .at) ≡ false
-  unfolding isWhole next
+  unfolding isWhole fedOne
   rests zero d e q = lt-leb (d .fed .at + size) (length bytes) (omega arith)
   rests (suc n) d e q =
       let w = some-left n (d .fed .at) (omega arith) in
-      go (quiet (d .fed)) refl (rests n (next bytes d) (omega (arith, whole-left bytes (d .fed .at) w))) q
+      go (quiet (d .fed)) refl (rests n (fedOne bytes d) (omega (arith, whole-left bytes (d .fed .at) w))) q
     where
       go : (b : Bool) → quiet (d .fed) ≡ b
-          → (quiet (feedUpTo n bytes (next bytes d) .fed) ≡ true → isWhole (length bytes) (feedUpTo n bytes (next bytes d) .fed .at) ≡ false)
-          → quiet (cond b (feedUpTo n bytes (next bytes d)) d .fed) ≡ true
-          → isWhole (length bytes) (cond b (feedUpTo n bytes (next bytes d)) d .fed .at) ≡ false
+          → (quiet (feedUpTo n bytes (fedOne bytes d) .fed) ≡ true → isWhole (length bytes) (feedUpTo n bytes (fedOne bytes d) .fed .at) ≡ false)
+          → quiet (cond b (feedUpTo n bytes (fedOne bytes d)) d .fed) ≡ true
+          → isWhole (length bytes) (cond b (feedUpTo n bytes (fedOne bytes d)) d .fed .at) ≡ false
       go true b r k = r k
       go false b r k = absurd (true≢false (sym k ∙ b))
 
@@ -46,21 +46,21 @@ module _ (bytes : List ℕ) where
   -- up to n records and then up to m more are up to n + m, also where one of the first has something to tell
   pub feed-again : (n m : ℕ) (d : Desk) → feedUpTo (n + m) bytes d ≡ feedUpTo m bytes (feedUpTo n bytes d)
   feed-again zero m d = rw zero-add
-  feed-again (suc n) m d = rw suc-add (go (quiet (d .fed)) refl (feed-again n m (next bytes d)))
+  feed-again (suc n) m d = rw suc-add (go (quiet (d .fed)) refl (feed-again n m (fedOne bytes d)))
     where
       go : (b : Bool) → quiet (d .fed) ≡ b
-          → feedUpTo (n + m) bytes (next bytes d) ≡ feedUpTo m bytes (feedUpTo n bytes (next bytes d))
-          → cond b (feedUpTo (n + m) bytes (next bytes d)) d ≡ feedUpTo m bytes (cond b (feedUpTo n bytes (next bytes d)) d)
+          → feedUpTo (n + m) bytes (fedOne bytes d) ≡ feedUpTo m bytes (feedUpTo n bytes (fedOne bytes d))
+          → cond b (feedUpTo (n + m) bytes (fedOne bytes d)) d ≡ feedUpTo m bytes (cond b (feedUpTo n bytes (fedOne bytes d)) d)
       go true b r = r
       go false b r = sym (loud m bytes d b)
 
   within : (n : ℕ) (d : Desk) → d .fed .at ≤ length bytes → feedUpTo n bytes d .fed .at ≤ length bytes
-  unfolding next
+  unfolding fedOne
   within zero d h = h
-  within (suc n) d h = go (quiet (d .fed)) (within n (next bytes d) (omega (arith, record-room bytes (d .fed .at))))
+  within (suc n) d h = go (quiet (d .fed)) (within n (fedOne bytes d) (omega (arith, record-room bytes (d .fed .at))))
     where
-      go : (b : Bool) → feedUpTo n bytes (next bytes d) .fed .at ≤ length bytes
-          → cond b (feedUpTo n bytes (next bytes d)) d .fed .at ≤ length bytes
+      go : (b : Bool) → feedUpTo n bytes (fedOne bytes d) .fed .at ≤ length bytes
+          → cond b (feedUpTo n bytes (fedOne bytes d)) d .fed .at ≤ length bytes
       go true r = r
       go false r = h
 
@@ -77,7 +77,7 @@ moved k d =
 
 -- begun there, with nothing told yet
 abbrev pub anew : Desk → ℕ → Desk
-anew d at = record { fed = begun (d .fed .state) at; lent = d .lent }
+anew d at = record { fed = nothingFed (d .fed .state) at; lent = d .lent }
 
 anew-moved : (d : Desk) (k : ℕ) → anew d k ≡ moved k (anew d 0)
 anew-moved d k = rw (add-zero k)
@@ -85,21 +85,21 @@ anew-moved d k = rw (add-zero k)
 -- what was told last doesn't matter to what is fed next
 pub feed-anew : (bytes : List ℕ) (d : Desk) → quiet (d .fed) ≡ true → isWhole (length bytes) (d .fed .at) ≡ true
     → feedAll bytes d ≡ feedAll bytes (anew d (d .fed .at))
-unfolding next isQuiet
+unfolding fedOne isQuiet
 feed-anew bytes d q w = feed-more bytes d w q ∙ sym (feed-more bytes (anew d (d .fed .at)) w refl)
 
 module _ (bytes : List ℕ) (k : ℕ) where
-  next-moved : (d : Desk) → next bytes (moved k d) ≡ moved k (next (drop k bytes) d)
-  unfolding next
+  next-moved : (d : Desk) → fedOne bytes (moved k d) ≡ moved k (fedOne (drop k bytes) d)
+  unfolding fedOne
   next-moved d = rw (drop-drop (d .fed .at) k bytes, add-assoc k (d .fed .at) (length (recordAt bytes (k + d .fed .at))))
 
   up-to-moved : (n : ℕ) (d : Desk) → feedUpTo n bytes (moved k d) ≡ moved k (feedUpTo n (drop k bytes) d)
   up-to-moved zero d = refl
-  up-to-moved (suc n) d = go (quiet (d .fed)) (ap (feedUpTo n bytes) (next-moved d) ∙ up-to-moved n (next (drop k bytes) d))
+  up-to-moved (suc n) d = go (quiet (d .fed)) (ap (feedUpTo n bytes) (next-moved d) ∙ up-to-moved n (fedOne (drop k bytes) d))
     where
-      go : (b : Bool) → feedUpTo n bytes (next bytes (moved k d)) ≡ moved k (feedUpTo n (drop k bytes) (next (drop k bytes) d))
-          → cond b (feedUpTo n bytes (next bytes (moved k d))) (moved k d)
-          ≡ moved k (cond b (feedUpTo n (drop k bytes) (next (drop k bytes) d)) d)
+      go : (b : Bool) → feedUpTo n bytes (fedOne bytes (moved k d)) ≡ moved k (feedUpTo n (drop k bytes) (fedOne (drop k bytes) d))
+          → cond b (feedUpTo n bytes (fedOne bytes (moved k d))) (moved k d)
+          ≡ moved k (cond b (feedUpTo n (drop k bytes) (fedOne (drop k bytes) d)) d)
       go true r = r
       go false r = refl
 
@@ -111,8 +111,8 @@ module _ (bytes : List ℕ) (k : ℕ) where
       ap (λ (n : ℕ). feedUpTo n bytes (moved k d)) e ∙ up-to-moved (wholeFrom (drop k bytes) (d .fed .at)) d
 
 module _ (xs ys : List ℕ) where
-  next-front : (d : Desk) → isWhole (length xs) (d .fed .at) ≡ true → next (xs ++ ys) d ≡ next xs d
-  unfolding next
+  next-front : (d : Desk) → isWhole (length xs) (d .fed .at) ≡ true → fedOne (xs ++ ys) d ≡ fedOne xs d
+  unfolding fedOne
   next-front d w =
       let at = d .fed .at in
       let h = whole-fits xs at w in
@@ -122,18 +122,18 @@ module _ (xs ys : List ℕ) where
       rw g
 
   up-to-front : (n : ℕ) (d : Desk) → n ≤ wholeFrom xs (d .fed .at) → feedAll (xs ++ ys) d ≡ feedAll (xs ++ ys) (feedUpTo n xs d)
-  unfolding isWhole next
+  unfolding isWhole fedOne
   up-to-front zero d h = refl
   up-to-front (suc n) d h =
       let at = d .fed .at in
       let w = some-left xs n at h in
       let l : at + size ≤ length (xs ++ ys) = simp length-append (omega (arith, whole-fits xs at w)) in
       let v : isWhole (length (xs ++ ys)) at ≡ true = le-leb (at + size) (length (xs ++ ys)) l in
-      let r = up-to-front n (next xs d) (omega (arith, whole-left xs at w)) in
+      let r = up-to-front n (fedOne xs d) (omega (arith, whole-left xs at w)) in
       go (quiet (d .fed)) refl (λ q. feed-more (xs ++ ys) d v q ∙ ap (feedAll (xs ++ ys)) (next-front d w) ∙ r)
     where
-      go : (b : Bool) → quiet (d .fed) ≡ b → (quiet (d .fed) ≡ true → feedAll (xs ++ ys) d ≡ feedAll (xs ++ ys) (feedUpTo n xs (next xs d)))
-          → feedAll (xs ++ ys) d ≡ feedAll (xs ++ ys) (cond b (feedUpTo n xs (next xs d)) d)
+      go : (b : Bool) → quiet (d .fed) ≡ b → (quiet (d .fed) ≡ true → feedAll (xs ++ ys) d ≡ feedAll (xs ++ ys) (feedUpTo n xs (fedOne xs d)))
+          → feedAll (xs ++ ys) d ≡ feedAll (xs ++ ys) (cond b (feedUpTo n xs (fedOne xs d)) d)
       go true b r = r b
       go false b r = refl
 

@@ -6,7 +6,7 @@ use mathlib.Core.Bool.{Bool, true, false, cond}
 use mathlib.Core.List.{List, [], _∷_}
 use Prim.Native.Nat.{ℕ, zero, suc}
 use native.Mathlib.Omega.{arith}
-use Rattle.feed.specs.Feeding.{quiet, Desk, next, feedUpTo, wholeFrom, feedAll, toldIn, toldAll}
+use Rattle.feed.specs.Feeding.{quiet, Desk, fedOne, feedUpTo, wholeFrom, feedAll, toldIn, toldAll}
 use Rattle.feed.specs.declared.feeding.Fed.{Fed}
 use Rattle.feed.proofs.Cuts.{whole-left}
 use Rattle.feed.proofs.Turns.{loud}
@@ -18,25 +18,25 @@ module _ (bytes : List ℕ) where
   first e = cond (quiet (e .fed)) [] (e .fed ∷ toldAll bytes e)
 
   tells : (n : ℕ) (d : Desk) → n ≡ wholeFrom bytes (d .fed .at) → quiet (d .fed) ≡ true → toldIn n bytes d ≡ first (feedUpTo n bytes d)
-  unfolding toldAll next
+  unfolding toldAll fedOne
   tells zero d e q = rw q
   tells (suc n) d e q =
       let w = some-left bytes n (d .fed .at) (omega arith) in
-      let l : n ≡ wholeFrom bytes (next bytes d .fed .at) = omega (arith, whole-left bytes (d .fed .at) w) in
-      rw q (go (quiet (next bytes d .fed)) refl l (tells n (next bytes d) l))
+      let l : n ≡ wholeFrom bytes (fedOne bytes d .fed .at) = omega (arith, whole-left bytes (d .fed .at) w) in
+      rw q (go (quiet (fedOne bytes d .fed)) refl l (tells n (fedOne bytes d) l))
     where
-      go : (b : Bool) → quiet (next bytes d .fed) ≡ b → n ≡ wholeFrom bytes (next bytes d .fed .at)
-          → (quiet (next bytes d .fed) ≡ true → toldIn n bytes (next bytes d) ≡ first (feedUpTo n bytes (next bytes d)))
-          → cond b (toldIn n bytes (next bytes d)) (next bytes d .fed ∷ toldIn n bytes (next bytes d)) ≡ first (feedUpTo n bytes (next bytes d))
+      go : (b : Bool) → quiet (fedOne bytes d .fed) ≡ b → n ≡ wholeFrom bytes (fedOne bytes d .fed .at)
+          → (quiet (fedOne bytes d .fed) ≡ true → toldIn n bytes (fedOne bytes d) ≡ first (feedUpTo n bytes (fedOne bytes d)))
+          → cond b (toldIn n bytes (fedOne bytes d)) (fedOne bytes d .fed ∷ toldIn n bytes (fedOne bytes d)) ≡ first (feedUpTo n bytes (fedOne bytes d))
       go true b l r = r b
-      go false b l r = sym (ap first (loud n bytes (next bytes d) b) ∙ rw (b, sym l))
+      go false b l r = sym (ap first (loud n bytes (fedOne bytes d) b) ∙ rw (b, sym l))
 
   pub feed-tells : (d : Desk) → quiet (d .fed) ≡ true → toldAll bytes d ≡ first (feedAll bytes d)
   unfolding feedAll toldAll
   feed-tells d q = tells (wholeFrom bytes (d .fed .at)) d refl q
 
-  same-next : (d : Desk) → next bytes (anew d (d .fed .at)) ≡ next bytes d
-  unfolding next
+  same-next : (d : Desk) → fedOne bytes (anew d (d .fed .at)) ≡ fedOne bytes d
+  unfolding fedOne
   same-next d = refl
 
   on : (n : ℕ) (d : Desk) → toldIn n bytes (anew d (d .fed .at)) ≡ toldIn n bytes d

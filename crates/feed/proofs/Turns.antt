@@ -13,7 +13,7 @@ use Rattle.state.specs.declared.deciding.Stepped.{Stepped}
 use Rattle.reader.specs.Buffers.{Buffers}
 use Rattle.reader.specs.Steps.{StepIs}
 use Rattle.feed.specs.Cutting.{recordAt, isWhole}
-use Rattle.feed.specs.Feeding.{told, quiet, Desk, next, feedUpTo, wholeFrom, feedAll, desk, DeskIs, OneIs}
+use Rattle.feed.specs.Feeding.{told, quiet, Desk, fedOne, feedUpTo, wholeFrom, feedAll, desk, DeskIs, OneIs}
 use Rattle.feed.specs.declared.feeding.Fed.{Fed}
 use Rattle.feed.proofs.Cuts.{whole-left, none-left}
 
@@ -21,7 +21,7 @@ use Rattle.feed.proofs.Cuts.{whole-left, none-left}
 pub one-is : {s : State} {b b′ : Buffers} {r : List ℕ} {x : Stepped} {n : ℕ} (bytes : List ℕ) (at : ℕ)
     → r ≡ recordAt bytes at → StepIs s b r x b′ → n ≡ answerNumber (x .answer)
     → OneIs s b bytes at (record { from = at; at = at + length r; rule = n; state = x .state; closed = x .closed }) b′
-unfolding next
+unfolding fedOne
 one-is bytes at e is h =
     let i = rw e at is in
     record { result = rw (e, h) (ap (told at (length (recordAt bytes at))) (i .result)); left = i .left }
@@ -34,8 +34,8 @@ loud (suc n) bytes d e = rw e
 module _ (bytes : List ℕ) where
   -- one more is taken; none is left; the last had something to tell
   pub feed-more : (d : Desk) → isWhole (length bytes) (d .fed .at) ≡ true → quiet (d .fed) ≡ true
-      → feedAll bytes d ≡ feedAll bytes (next bytes d)
-  unfolding feedAll next
+      → feedAll bytes d ≡ feedAll bytes (fedOne bytes d)
+  unfolding feedAll fedOne
   feed-more d w q = ap (λ (k : ℕ). feedUpTo k bytes d) (whole-left bytes (d .fed .at) w ∙ add-one _) ∙ rw q
 
   pub feed-none : (d : Desk) → isWhole (length bytes) (d .fed .at) ≡ false → feedAll bytes d ≡ d
@@ -50,11 +50,11 @@ module _ (bytes : List ℕ) where
       {x : Fed} {b′ : Buffers} (is : OneIs (f .state) b bytes (f .at) x b′) where
     -- after a turn the same is left to do, with one record fewer
     pub turn : quiet f ≡ true → feedAll bytes (desk f b) ≡ feedAll bytes (desk x b′)
-    unfolding next
+    unfolding fedOne
     turn q = feed-more (desk f b) w q ∙ ap (feedAll bytes) (sym (rw (is .result, is .left)))
 
     pub fewer : wholeFrom bytes (x .at) < wholeFrom bytes (f .at)
-    unfolding next
+    unfolding fedOne
     fewer = omega (arith, whole-left bytes (f .at) w, ap (λ (y : Fed). y .at) (is .result))
 
   module _ {f : Fed} {b : Buffers} (d : Desk) (e : feedAll bytes d ≡ feedAll bytes (desk f b)) where

@@ -17,8 +17,8 @@ use Rattle.feed.specs.declared.feeding.Fed.{Fed}
 use Rattle.feed.specs.Cutting.{recordAt}
 
 -- before the first: nothing to tell
-abbrev pub begun : State → ℕ → Fed
-begun s at = record { from = at; at = at; rule = 0; state = s; closed = nothingClosed }
+abbrev pub nothingFed : State → ℕ → Fed
+nothingFed s at = record { from = at; at = at; rule = 0; state = s; closed = nothingClosed }
 
 -- after a record of n bytes that began at `at`
 abbrev pub told : ℕ → ℕ → Stepped → Fed
@@ -43,8 +43,8 @@ abbrev pub upcoming : List ℕ → Desk → List ℕ
 upcoming bytes d = recordAt bytes (d .fed .at)
 
 -- the reader's step on it
-unfoldable pub next : List ℕ → Desk → Desk
-next bytes d = record {
+unfoldable pub fedOne : List ℕ → Desk → Desk
+fedOne bytes d = record {
   fed = told (d .fed .at) (length (upcoming bytes d)) (decidedOf (input (d .fed .state) (d .lent) (upcoming bytes d)) .stepped);
   lent = stepped (d .fed .state) (d .lent) (upcoming bytes d);
 }
@@ -52,7 +52,7 @@ next bytes d = record {
 -- up to n records
 abbrev pub feedUpTo : ℕ → List ℕ → Desk → Desk
 feedUpTo zero bytes d = d
-feedUpTo (suc n) bytes d = cond (quiet (d .fed)) (feedUpTo n bytes (next bytes d)) d
+feedUpTo (suc n) bytes d = cond (quiet (d .fed)) (feedUpTo n bytes (fedOne bytes d)) d
 
 -- the whole records from a place on
 abbrev pub wholeFrom : List ℕ → ℕ → ℕ
@@ -64,7 +64,7 @@ feedAll bytes d = feedUpTo (wholeFrom bytes (d .fed .at)) bytes d
 -- all that n records have to tell, in order
 abbrev pub toldIn : ℕ → List ℕ → Desk → List Fed
 toldIn zero bytes d = []
-toldIn (suc n) bytes d = cond (quiet (next bytes d .fed)) (toldIn n bytes (next bytes d)) (next bytes d .fed ∷ toldIn n bytes (next bytes d))
+toldIn (suc n) bytes d = cond (quiet (fedOne bytes d .fed)) (toldIn n bytes (fedOne bytes d)) (fedOne bytes d .fed ∷ toldIn n bytes (fedOne bytes d))
 
 -- and the whole records from the desk's place on
 unfoldable pub toldAll : List ℕ → Desk → List Fed
@@ -79,7 +79,7 @@ pub record DeskIs (d : Desk) (x : Fed) (b : Buffers) : Type 0 where
   pub left : b ≡ d .lent
 
 abbrev pub OneIs : State → Buffers → List ℕ → ℕ → Fed → Buffers → Type 0
-OneIs s b bytes at = DeskIs (next bytes (desk (begun s at) b))
+OneIs s b bytes at = DeskIs (fedOne bytes (desk (nothingFed s at) b))
 
 abbrev pub FeedIs : State → Buffers → List ℕ → ℕ → Fed → Buffers → Type 0
-FeedIs s b bytes at = DeskIs (feedAll bytes (desk (begun s at) b))
+FeedIs s b bytes at = DeskIs (feedAll bytes (desk (nothingFed s at) b))

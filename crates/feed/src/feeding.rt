@@ -2,7 +2,7 @@
 ghost use mathlib.Core.Path.{_≡_};
 ghost use Rattle.state.specs.Deciding.{answerNumber};
 ghost use Rattle.reader.specs.Buffers.{buffers};
-ghost use Rattle.feed.specs.Feeding.{begun, isQuiet, OneIs, FeedIs};
+ghost use Rattle.feed.specs.Feeding.{nothingFed, isQuiet, OneIs, FeedIs};
 use crate::cutting::cut;
 use crate::cutting::is_whole;
 use state::Answer;
@@ -21,7 +21,7 @@ pub struct Fed {
 
 // None taken yet.
 fn begin(state: State, at: usize) -> Fed
-    ensures { λ f. ⌜ f ≡ begun state at ⌝ }
+    ensures { λ f. ⌜ f ≡ nothingFed state at ⌝ }
 {
     Fed {
         from: at,

@@ -15,7 +15,7 @@ use Rattle.prelude.specs.Every.{Every}
 use Rattle.bits.specs.Twelve.{Bytes}
 use Rattle.bits.proofs.BytesOf.{bytes-part}
 use Rattle.formats.specs.Part.{Part, PartLaw, Determined}
-use Rattle.formats.specs.Wholes.{together, pair, _then_, writeAll, readAll, _times_, shown, seen, limited, byTwos, oneByOne, _twos_}
+use Rattle.formats.specs.Wholes.{ofBoth, pair, _then_, writeAll, readAll, _times_, shown, seen, limited, byTwos, oneByOne, _twos_}
 
 pub determined : {A : Type 0} {p : Part A} → PartLaw p → Determined p
 determined {p = p} P = record {
@@ -38,7 +38,7 @@ bytes-drop : (b : List ℕ) (n : ℕ) → Bytes b → Bytes (drop n b)
 bytes-drop b n h i = rw (getD-drop n b i 0) (h (n + i))
 
 -- two are there where they are together
-together-some : {A B C : Type 0} (f : A → B → C) (x : Option A) (y : Option B) (c : C) → together f x y ≡ some c
+together-some : {A B C : Type 0} (f : A → B → C) (x : Option A) (y : Option B) (c : C) → ofBoth f x y ≡ some c
     → (a : A) × (b : B) × (x ≡ some a) × (y ≡ some b) × (f a b ≡ c)
 together-some f (some a) (some b) c e = (a, b, refl, refl, Option·some-injective (f a b) c e)
 together-some f (some a) none c e = absurd (Option·some-ne-none c (sym e))

@@ -19,7 +19,7 @@ use Rattle.prelude.proofs.Every.{every-joined}
 use Rattle.buffers.specs.Laying.{patch}
 use Rattle.buffers.proofs.Patches.{length-patch, patch-none, patch-then}
 use Rattle.formats.specs.Part.{Part, PartLaw, readAt}
-use Rattle.formats.specs.Wholes.{together, pair, _then_, writeAll, readAll, _times_, byTwos, oneByOne, ThenAt, TimesAt, TwosAt}
+use Rattle.formats.specs.Wholes.{ofBoth, pair, _then_, writeAll, readAll, _times_, byTwos, oneByOne, ThenAt, TimesAt, TwosAt}
 use Rattle.formats.proofs.Laws.{all-sized, twos-same}
 
 -- a room keeps its length
@@ -33,7 +33,7 @@ cut x m n h = ap (drop m) (take-add m n x) ∙ drop-at (take m x) (take n (drop 
 
 -- a whole read by its parts
 module _ {A B : Type 0} (p : Part A) (q : Part B) (b : List ℕ) (at : ℕ) (h : at + (p then q) .size ≤ length b) where
-  then-told : readAt (p then q) b at ≡ together pair (readAt p b at) (readAt q b (at + p .size))
+  then-told : readAt (p then q) b at ≡ ofBoth pair (readAt p b at) (readAt q b (at + p .size))
   then-told =
       let x = drop at b in
       let l : length x ≡ length b - at = length-drop at b in
@@ -42,8 +42,8 @@ module _ {A B : Type 0} (p : Part A) (q : Part B) (b : List ℕ) (at : ℕ) (h :
   pub then-read : (x : A) (y : B) → readAt p b at ≡ some x → readAt q b (at + p .size) ≡ some y → readAt (p then q) b at ≡ some (x, y)
   then-read x y d e =
       then-told
-      ∙ ap (λ (r : Option A). together pair r (readAt q b (at + p .size))) d
-      ∙ ap (λ (r : Option B). together {B = B} {C = A × B} pair (some x) r) e
+      ∙ ap (λ (r : Option A). ofBoth pair r (readAt q b (at + p .size))) d
+      ∙ ap (λ (r : Option B). ofBoth {B = B} {C = A × B} pair (some x) r) e
 
 pub then-at : {A B : Type 0} {p : Part A} (q : Part B) → PartLaw p → ThenAt p q
 then-at {A = A} {B = B} {p = p} q P = record {
@@ -97,7 +97,7 @@ module _ {A : Type 0} {p : Part A} (P : PartLaw p) where
   -- one element, and n after it
   first-told : (n : ℕ) (b : List ℕ) (at : ℕ) → at + suc n * p .size ≤ length b
       → readAll p (suc n) (take (suc n * p .size) (drop at b))
-      ≡ together _∷_ (readAt p b at) (readAll p n (take (n * p .size) (drop (at + p .size) b)))
+      ≡ ofBoth _∷_ (readAt p b at) (readAll p n (take (n * p .size) (drop (at + p .size) b)))
   unfolding readAll
   first-told n b at l =
       let s = p .size in
@@ -122,7 +122,7 @@ module _ {A : Type 0} {p : Part A} (P : PartLaw p) where
       let rest = told n b (at + s) (λ k. f (suc k)) (omega arith) step in
       first-told n b at l ∙ rw (one, rest) (ap some (build-first f n))
 
-  none-last : (x : Option A) → together {B = List A} _∷_ x none ≡ none
+  none-last : (x : Option A) → ofBoth {B = List A} _∷_ x none ≡ none
   none-last none = refl
   none-last (some a) = refl
 

@@ -17,10 +17,10 @@ infixr 4 _then_
 infixr 5 _times_
 infixr 5 _twos_
 -- of two values that may be missing
-abbrev pub together : {A B C : Type 0} → (A → B → C) → Option A → Option B → Option C
-together f (some a) (some b) = some (f a b)
-together f (some a) none = none
-together f none b = none
+abbrev pub ofBoth : {A B C : Type 0} → (A → B → C) → Option A → Option B → Option C
+ofBoth f (some a) (some b) = some (f a b)
+ofBoth f (some a) none = none
+ofBoth f none b = none
 
 abbrev pub pair : {A B : Type 0} → A → B → A × B
 pair a b = (a, b)
@@ -31,7 +31,7 @@ p then q = record {
   size = p .size + q .size;
   Holds = λ v. p .Holds (v .0) × q .Holds (v .1);
   write = λ v. p .write (v .0) ++ q .write (v .1);
-  read = λ b. together pair (p .read (take (p .size) b)) (q .read (drop (p .size) b));
+  read = λ b. ofBoth pair (p .read (take (p .size) b)) (q .read (drop (p .size) b));
 }
 
 unfoldable pub writeAll : {A : Type 0} → Part A → List A → List ℕ
@@ -40,7 +40,7 @@ writeAll p (x ∷ xs) = p .write x ++ writeAll p xs
 
 unfoldable pub readAll : {A : Type 0} → Part A → ℕ → List ℕ → Option (List A)
 readAll p zero b = some []
-readAll p (suc n) b = together _∷_ (p .read (take (p .size) b)) (readAll p n (drop (p .size) b))
+readAll p (suc n) b = ofBoth _∷_ (p .read (take (p .size) b)) (readAll p n (drop (p .size) b))
 
 -- the part n times, one after another
 abbrev pub _times_ : {A : Type 0} → ℕ → Part A → Part (List A)
@@ -96,7 +96,7 @@ pub record ThenAt {A B : Type 0} (p : Part A) (q : Part B) : Type 0 where
   pub told :
       (b : List ℕ) (at : ℕ)
       → at + (p then q) .size ≤ length b
-      → readAt (p then q) b at ≡ together pair (readAt p b at) (readAt q b (at + p .size))
+      → readAt (p then q) b at ≡ ofBoth pair (readAt p b at) (readAt q b (at + p .size))
 
 -- element k stands at k times the size; a room filled with the first k elements and then with one more is filled with k + 1; a whole
 -- of n is read element by element, and isn't where one of them isn't. Proved as `times-at` in proofs/Offsets.antt

@@ -7,7 +7,7 @@ use Prim.Native.Nat.{ℕ, _+_, _<_, _≤_}
 use native.Mathlib.Omega.{arith}
 use Rattle.prelude.specs.Every.{Every}
 use Rattle.gathering.specs.Lists.{Some}
-use Rattle.gathering.specs.Laying.{putAll, Rising, Free, Table}
+use Rattle.gathering.specs.Laying.{putAll, Rising, Unused, Table}
 
 module _ {I : Type 0} (key : I → ℕ) where
   pub rising-down : (xs : List I) (low low′ : ℕ) → low ≤ low′ → Rising key low′ xs → Rising key low xs
@@ -15,7 +15,7 @@ module _ {I : Type 0} (key : I → ℕ) where
   rising-down [] low low′ l r = tt
   rising-down (x ∷ xs) low low′ l r = (omega (arith, r .0), r .1)
 
-  pub free-below : (xs : List I) (low u : ℕ) → u < low → Rising key low xs → Free key u xs
+  pub free-below : (xs : List I) (low u : ℕ) → u < low → Rising key low xs → Unused key u xs
   unfolding Rising Every
   free-below [] low u h r = tt
   free-below (x ∷ xs) low u h r = (λ e. omega (arith, r .0), free-below xs (key x + 1) u (omega (arith, r .0)) (r .1))
@@ -44,7 +44,7 @@ module _ {I B C : Type 0} {key : I → ℕ} {put : I → B → B} {look : B → 
       all-fit xs (put x b) (key x + 1) n wider (omega (arith, u .0)) (u .1) (g .1) (r .1) (t .fits x b low (g .0) (r .0) f)
 
   -- a key that none has
-  pub stays : (xs : List I) (b : B) (low u : ℕ) → Every Good xs → Rising key low xs → Fit low b → Key u → Free key u xs
+  pub stays : (xs : List I) (b : B) (low u : ℕ) → Every Good xs → Rising key low xs → Fit low b → Key u → Unused key u xs
       → look (putAll put b xs) u ≡ look b u
   unfolding putAll Every Rising
   stays [] b low u g r f k n = refl

@@ -12,7 +12,7 @@ use lib.Pow.{pow-mono, pow-pos}
 use Rattle.prelude.specs.Marks.{bitSet, marked}
 use Rattle.prelude.specs.Every.{Every}
 use Rattle.prelude.proofs.Marks.{marked-own, marked-other, marked-below, ones-marked, bits-above}
-use Rattle.gathering.specs.Laying.{putAll, Rising, Free, Table}
+use Rattle.gathering.specs.Laying.{putAll, Rising, Unused, Table}
 use Rattle.gathering.proofs.Laying.{all-fit, stays, stand}
 use Rattle.gathering.proofs.Members.{In, in-every}
 
@@ -41,7 +41,7 @@ module _ {I : Type 0} (key : I → ℕ) where
     pub marks-set : (x : I) → In x xs → bitSet (marksFrom key 0 xs) (key x) ≡ true
     marks-set x i = stand marks xs 0 low (any xs) r (pow-pos low) x i
 
-    pub marks-free : (u : ℕ) → Free key u xs → bitSet (marksFrom key 0 xs) u ≡ false
+    pub marks-free : (u : ℕ) → Unused key u xs → bitSet (marksFrom key 0 xs) u ≡ false
     marks-free u n = stays marks xs 0 low u (any xs) r (pow-pos low) tt n ∙ bits-above 0 u (pow-pos u)
 
     pub marks-below : (n : ℕ) → low ≤ n → Every (λ x. key x < n) xs → marksFrom key 0 xs < 2 ^ n

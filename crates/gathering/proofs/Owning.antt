@@ -7,7 +7,7 @@ use mathlib.Core.Logic.{_⊎_, inl, inr, ⊎-elim}
 use Prim.Native.Nat.{ℕ}
 use Rattle.prelude.specs.Every.{Every}
 use Rattle.gathering.specs.Lists.{Some, Pairwise, ExactlyOne, Neighbours, flat, Linked, Cut}
-use Rattle.gathering.specs.Laying.{Rising, Free}
+use Rattle.gathering.specs.Laying.{Rising, Unused}
 use Rattle.gathering.proofs.Members.{In, Among, among-all, every-in, in-every, some-in, one-has, each, some-out, once-in, beside}
 
 -- a part of a cutting, with what links it
@@ -27,15 +27,15 @@ all-tied R S P ((x ∷ xs) ∷ gs) (o ∷ os) c h = ((h .0, c .0), all-tied R S 
 -- marks of the keys of the items in g
 module _ {I : Type 0} (key : I → ℕ) (g : List I) (set : ℕ → Bool) (u : ℕ) where
   -- one that is set is an item's, and so one of all items rs
-  pub set-by : (Free key u g → set u ≡ false) → set u ≡ true → (C : Type 0) → ((y : I) → In y g → key y ≡ u → C) → C
+  pub set-by : (Unused key u g → set u ≡ false) → set u ≡ true → (C : Type 0) → ((y : I) → In y g → key y ≡ u → C) → C
   set-by free e C so = one-has key u g C (λ n. true≢false (sym e ∙ free n)) so
 
-  pub set-from : (rs : List I) → Among rs g → (Free key u g → set u ≡ false) → set u ≡ true
+  pub set-from : (rs : List I) → Among rs g → (Unused key u g → set u ≡ false) → set u ≡ true
       → (Q : I → Type 0) → ((y : I) → In y g → key y ≡ u → Q y) → Some Q rs
   set-from rs w free e Q so = set-by free e (Some Q rs) (λ y j z. some-in Q rs y (w y j) (so y j z))
 
   -- of one that isn't set there is no item
-  pub unset-free : ((y : I) → In y g → set (key y) ≡ true) → set u ≡ false → Free key u g
+  pub unset-free : ((y : I) → In y g → set (key y) ≡ true) → set u ≡ false → Unused key u g
   unset-free held e = in-every (λ y. key y ≡ u → ⊥) g (λ y j z. true≢false (sym (held y j) ∙ ap set z ∙ e))
 
 -- each of the items rs has exactly one of its own, and Q there; and what is so of each that is handed out

@@ -15,8 +15,8 @@ Rising key low [] = Unit {0}
 Rising key low (x ∷ xs) = (low ≤ key x) × Rising key (key x + 1) xs
 
 -- a key that none of them has
-abbrev pub Free : {I : Type 0} → (I → ℕ) → ℕ → List I → Type 0
-Free key u xs = Every (λ x. key x ≡ u → ⊥) xs
+abbrev pub Unused : {I : Type 0} → (I → ℕ) → ℕ → List I → Type 0
+Unused key u xs = Every (λ x. key x ≡ u → ⊥) xs
 
 -- A table of places: `look b u` is what stands in b in a place of the key u, `value x` what an item x puts there. Items that are
 -- Good are put where b is Fit for keys from low on: then x has its value in its own place, and the places of other keys that

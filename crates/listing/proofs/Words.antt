@@ -14,7 +14,7 @@ use Rattle.prelude.proofs.Upto.{both-left, both-right, upto-at}
 use Rattle.listing.specs.Text.{ascii, space}
 use Rattle.listing.specs.inner.Putting.{Put}
 use Rattle.listing.specs.Decimal.{decimal}
-use Rattle.listing.specs.Refusals.{words, wordsOf, wordsSize, place, placeSize, refusalLine, refusalSize}
+use Rattle.listing.specs.Refusals.{words, wordsOf, wordsSize, recordPlace, placeSize, refusalLine, refusalSize}
 use Rattle.listing.proofs.Puts.{put-none, put-then, room-after}
 use Rattle.listing.proofs.Digits.{length-decimal}
 
@@ -109,8 +109,8 @@ length-words rule = go (ltb rule rows) refl
     go true e = row-of rule (ltb-true rule rows e) .short
     go false e = subst (λ (t : List ℕ). length t ≤ wordsSize) (sym (words-past rule (ltb-false rule rows e))) (omega arith)
 
-pub length-place : (n offset : ℕ) → length (place n offset) ≤ placeSize
-unfolding place
+pub length-place : (n offset : ℕ) → length (recordPlace n offset) ≤ placeSize
+unfolding recordPlace
 length-place n offset = simp length-append (omega (arith, length-decimal n, length-decimal offset))
 
 -- "no line too long for its buffer, whatever the counts"
@@ -121,7 +121,7 @@ length-refusal n offset rule = simp length-append (omega (arith, length-place n 
 -- the parts of such a line, each put where the one before ends; what is free after each: room for the words and the line's end
 -- (1), before them ": " (2), before it a space and the digits (21), before these ": refused with" (14)
 module _ (n offset rule : ℕ) {d : List ℕ} {at : ℕ} (h : at + refusalSize ≤ length d)
-    {d₁ : List ℕ} {p₁ : ℕ} (o : Put d at (place n offset) d₁ p₁)
+    {d₁ : List ℕ} {p₁ : ℕ} (o : Put d at (recordPlace n offset) d₁ p₁)
     {d₂ : List ℕ} {p₂ : ℕ} (w : Put d₁ p₁ (ascii ": refused with") d₂ p₂)
     {d₃ : List ℕ} {p₃ : ℕ} (r : Put d₂ p₂ (space ∷ decimal rule) d₃ p₃)
     {d₄ : List ℕ} {p₄ : ℕ} (c : Put d₃ p₃ (ascii ": ") d₄ p₄) where

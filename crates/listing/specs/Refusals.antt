@@ -37,21 +37,21 @@ abbrev pub wordsSize : ℕ
 wordsSize = 67
 
 -- the words with a byte of 0 after them, as C has a text, and what is asked to be free for it
-unfoldable pub meaning : ℕ → List ℕ
-meaning rule = wordsOf rule ++ (0 ∷ [])
+unfoldable pub meaningText : ℕ → List ℕ
+meaningText rule = wordsOf rule ++ (0 ∷ [])
 
 abbrev pub meaningSize : ℕ
 meaningSize = 80
 
 -- the record, counted from 0, and where it begins in the input
-unfoldable pub place : ℕ → ℕ → List ℕ
-place n offset = ascii "record" ++ spaced n (ascii " at byte" ++ (space ∷ decimal offset))
+unfoldable pub recordPlace : ℕ → ℕ → List ℕ
+recordPlace n offset = ascii "record" ++ spaced n (ascii " at byte" ++ (space ∷ decimal offset))
 
 abbrev pub placeSize : ℕ
 placeSize = 6 + (1 + digits) + 8 + (1 + digits)
 
 unfoldable pub refusalLine : ℕ → ℕ → ℕ → List ℕ
-refusalLine n offset rule = place n offset ++ (ascii ": refused with" ++ spaced rule (ascii ": " ++ (wordsOf rule ++ ascii "\n")))
+refusalLine n offset rule = recordPlace n offset ++ (ascii ": refused with" ++ spaced rule (ascii ": " ++ (wordsOf rule ++ ascii "\n")))
 
 abbrev pub refusalSize : ℕ
 refusalSize = placeSize + 14 + (1 + digits) + 2 + wordsSize + 1

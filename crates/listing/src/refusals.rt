@@ -3,7 +3,7 @@ ghost use Prim.Native.Nat.{_+_, _≤_};
 ghost use lib.ListN.{length};
 ghost use Rattle.listing.specs.Text.{Written};
 ghost use Rattle.listing.specs.inner.Putting.{Put};
-ghost use Rattle.listing.specs.Refusals.{wordsSize, wordsOf, meaningSize, meaning, placeSize, place, refusalSize, refusalLine};
+ghost use Rattle.listing.specs.Refusals.{wordsSize, wordsOf, meaningSize, meaningText, placeSize, recordPlace, refusalSize, refusalLine};
 use crate::MEANING;
 use crate::REFUSAL;
 use crate::decimal::put_number;
@@ -66,7 +66,7 @@ fn put_words(rule: u8, out: &mut [u8], at: usize) -> usize
 
 // The words for a number, and a byte of 0 after them.
 pub fn put_meaning(rule: u8, out: &mut [u8], at: usize) -> usize
-    ensures { λ r. ⌜ Written meaningSize (meaning rule) (now (out .entry)) at (now (out .exit)) r ⌝ }
+    ensures { λ r. ⌜ Written meaningSize (meaningText rule) (now (out .entry)) at (now (out .exit)) r ⌝ }
 {
     if !has_room(out.len(), at, MEANING) {
         return at;
@@ -78,7 +78,7 @@ pub fn put_meaning(rule: u8, out: &mut [u8], at: usize) -> usize
 // Which record it is.
 fn put_place(number: u64, offset: u64, out: &mut [u8], at: usize) -> usize
     requires { ⌜ at + placeSize ≤ length (now out) ⌝ }
-    ensures { λ r. ⌜ Put (now (out .entry)) at (place number offset) (now (out .exit)) r ⌝ }
+    ensures { λ r. ⌜ Put (now (out .entry)) at (recordPlace number offset) (now (out .exit)) r ⌝ }
 {
     let after_word = put(b"record", out, at);
     let after_record = put_number(number, out, after_word);

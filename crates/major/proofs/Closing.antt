@@ -5,7 +5,7 @@ use mathlib.Core.Bool.{Bool, true, false, not, cond}
 use Prim.Native.Nat.{ℕ}
 use Rattle.buffers.specs.declared.work.Work.{Work}
 use Rattle.buffers.proofs.Closing.{Closes, closes, closes-none}
-use Rattle.major.specs.Major.{slotOf, majorOpen, majorUnreported, majorReported, continues, stays, turns, stepMajor}
+use Rattle.major.specs.Major.{slotOf, majorOpen, majorUnreported, majorReported, continues, stays, majorRenews, stepMajor}
 use Rattle.major.specs.declared.Major.{Major}
 use Rattle.major.specs.declared.MajorReport.{MajorReport}
 use Rattle.major.specs.declared.MajorStep.{MajorStep}
@@ -23,7 +23,7 @@ no-major b c = closes-none (λ x. x .closed) majorUnreported refl b c
 
 module _ (m : Major) (d : ℕ) (mag : Bool) (k w : ℕ) where
   abbrev stepBy : Bool → MajorStep
-  stepBy t = cond t (stays m d mag k w) (turns m d mag k w)
+  stepBy t = cond t (stays m d mag k w) (majorRenews m d mag k w)
 
   pub step-closes : MajorCloses (stepMajor m d mag k w .work .work) (stepMajor m d mag k w .report)
   unfolding stepMajor

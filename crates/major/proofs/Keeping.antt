@@ -17,7 +17,7 @@ use Rattle.prelude.proofs.Upto.{upto-all}
 use Rattle.clock.specs.Clock.{accepted}
 use Rattle.clock.specs.declared.Clock.{Clock}
 use Rattle.clock.proofs.Laws.{not-begun}
-use Rattle.major.specs.Major.{majorNumber, slotOf, noMajor, continues, into, stays, turns, stepMajor}
+use Rattle.major.specs.Major.{majorNumber, slotOf, noMajor, continues, into, stays, majorRenews, stepMajor}
 use Rattle.major.specs.Soundness.{slotTest, slotHolds, slotsHold, majorNow, noSlot, majorSound}
 use Rattle.major.specs.Shape.{Shaped}
 use Rattle.major.specs.declared.Major.{Major}
@@ -128,7 +128,7 @@ module _ (c : Clock) (m : Major) (d : ℕ) (mag : Bool) (g w : ℕ)
   unfolding stepMajor
   next-is = go (continues m d)
     where
-      go : (t : Bool) → cond t (stays m d mag g w) (turns m d mag g w) .next ≡ into (held-in t) d mag g w
+      go : (t : Bool) → cond t (stays m d mag g w) (majorRenews m d mag g w) .next ≡ into (held-in t) d mag g w
       go true = refl
       go false = refl
 

@@ -12,7 +12,7 @@ use borrow.Author.Tests.{eqb-true, eq-eqb}
 use Rattle.prelude.specs.Marks.{bitSet, marked}
 use Rattle.prelude.proofs.Conds.{two}
 use Rattle.prelude.proofs.Marks.{weight, bits-above, below}
-use Rattle.major.specs.Major.{slotOf, noMajor, continues, into, stays, turns, stepMajor}
+use Rattle.major.specs.Major.{slotOf, noMajor, continues, into, stays, majorRenews, stepMajor}
 use Rattle.major.specs.Place.{Free, slotFree, leaves, steppedAt, SteppedIs}
 use Rattle.major.specs.declared.Major.{Major}
 use Rattle.major.specs.declared.MajorStep.{MajorStep}
@@ -77,9 +77,9 @@ module _ (m : Major) (d : ℕ) where
 
 -- the three outcomes of a step
 module _ (m : Major) (d : ℕ) (mag : Bool) (range word : ℕ) (x : MajorStep) where
-  pub is-turned : continues m d ≡ false → x ≡ turns m d mag range word → SteppedIs m d mag range word x
+  pub is-renewed : continues m d ≡ false → x ≡ majorRenews m d mag range word → SteppedIs m d mag range word x
   unfolding steppedAt stepMajor
-  is-turned e q = record { is = q ∙ rw e; within = λ f. q ∙ rw e }
+  is-renewed e q = record { is = q ∙ rw e; within = λ f. q ∙ rw e }
 
   pub is-left : continues m d ≡ true → slotFree m d ≡ false → m .«mag_slots» < 2 ^ 16 → x ≡ leaves m → SteppedIs m d mag range word x
   unfolding steppedAt

@@ -7,7 +7,7 @@ use mathlib.Core.Path.{_≡_}
 use lib.Dec.{eqb}
 use Rattle.prelude.specs.Marks.{bitSet}
 use Rattle.buffers.specs.Working.{noWork}
-use Rattle.major.specs.Major.{slotOf, slots, majorUnreported, slotWork, continues, stays, turns, stepMajor}
+use Rattle.major.specs.Major.{slotOf, slots, majorUnreported, slotWork, continues, stays, majorRenews, stepMajor}
 use Rattle.major.specs.declared.Major.{Major}
 use Rattle.major.specs.declared.MajorStep.{MajorStep}
 
@@ -21,7 +21,7 @@ leaves m = record { next = m; report = majorUnreported; work = slotWork noWork 0
 
 unfoldable pub steppedAt : Major → ℕ → Bool → ℕ → ℕ → MajorStep
 steppedAt m d mag range word =
-    cond (continues m d) (cond (slotFree m d) (stays m d mag range word) (leaves m)) (turns m d mag range word)
+    cond (continues m d) (cond (slotFree m d) (stays m d mag range word) (leaves m)) (majorRenews m d mag range word)
 
 -- no slot from that of count d on is held, mark by mark
 abbrev pub Free : Major → ℕ → Type 0

@@ -2,7 +2,7 @@
 // accumulations").
 ghost use mathlib.Core.Path.{_≡_};
 ghost use Prim.Native.Nat.{_^_, _<_};
-ghost use Rattle.major.specs.Major.{noMajor, continues, into, majorUnreported, majorReported, slotWork, stays, turns};
+ghost use Rattle.major.specs.Major.{noMajor, continues, into, majorUnreported, majorReported, slotWork, stays, majorRenews};
 ghost use Rattle.major.specs.Place.{Free, slotFree, leaves, SteppedIs};
 use crate::Major;
 use crate::MajorReport;
@@ -128,8 +128,8 @@ fn stay(m: Major, d: u64, mag: bool, range: u8, word: u16) -> MajorStep
 }
 
 // It closes, and a new one opens with that slot alone.
-fn turn(m: Major, d: u64, mag: bool, range: u8, word: u16) -> MajorStep
-    ensures { λ x. ⌜ x ≡ turns m d mag range word ⌝ }
+fn renew(m: Major, d: u64, mag: bool, range: u8, word: u16) -> MajorStep
+    ensures { λ x. ⌜ x ≡ majorRenews m d mag range word ⌝ }
 {
     MajorStep {
         next: put_slot(no_major(), d, mag, range, word),
@@ -150,7 +150,7 @@ pub fn step(m: Major, d: u64, mag: bool, range: u8, word: u16) -> MajorStep
     ensures { λ x. ⌜ SteppedIs m d mag range word x ⌝ }
 {
     if !continues_at(m, d) {
-        return turn(m, d, mag, range, word);
+        return renew(m, d, mag, range, word);
     }
     if !slot_free(m, d) {
         return leave(m);

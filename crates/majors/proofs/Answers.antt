@@ -18,7 +18,7 @@ use Rattle.mag.specs.declared.nominal.Field.{Field}
 use Rattle.mag.specs.declared.nominal.Field.the-variants as field
 use Rattle.cells.specs.Words.{said}
 use Rattle.major.specs.declared.Major.{Major}
-use Rattle.major.specs.Major.{slots, frameSamples}
+use Rattle.major.specs.Major.{slots, majorSamples}
 use Rattle.majors.specs.Questions.{stored, isPlace, hasStored, hasNominal, magHeld, slotHeld, fieldAt}
 use Rattle.majors.specs.Questions.{sampleSaid, wordSaid, nominalSaid, sampleGiven, wordGiven, nominalGiven}
 use Rattle.majors.specs.Questions.{SampleIs, WordIs, NominalIs}
@@ -30,21 +30,21 @@ use Rattle.majors.specs.declared.Word.{Word}
 use Rattle.majors.specs.declared.Word.the-variants as word
 
 module _ (samples : List ℤ) (s k : ℕ) where
-  pub off-size : (length samples ≡ frameSamples → ⊥) → false ≡ isPlace samples s k
+  pub off-size : (length samples ≡ majorSamples → ⊥) → false ≡ isPlace samples s k
   unfolding isPlace
-  off-size h = rw (ne-eqb (length samples) frameSamples h)
+  off-size h = rw (ne-eqb (length samples) majorSamples h)
 
-  pub off-slot : length samples ≡ frameSamples → slots ≤ s → false ≡ isPlace samples s k
+  pub off-slot : length samples ≡ majorSamples → slots ≤ s → false ≡ isPlace samples s k
   unfolding isPlace
-  off-slot h l = rw (eq-eqb (length samples) frameSamples h, le-ltb s slots l)
+  off-slot h l = rw (eq-eqb (length samples) majorSamples h, le-ltb s slots l)
 
-  pub by-number : length samples ≡ frameSamples → s < slots → ltb k samplesSize ≡ isPlace samples s k
+  pub by-number : length samples ≡ majorSamples → s < slots → ltb k samplesSize ≡ isPlace samples s k
   unfolding isPlace
-  by-number h l = rw (eq-eqb (length samples) frameSamples h, lt-ltb s slots l)
+  by-number h l = rw (eq-eqb (length samples) majorSamples h, lt-ltb s slots l)
 
   -- what a place is
   pub record Place : Type 0 where
-    pub size : length samples ≡ frameSamples
+    pub size : length samples ≡ majorSamples
     pub slot : s < slots
     pub number : k < samplesSize
 
@@ -54,9 +54,9 @@ module _ (samples : List ℤ) (s k : ℕ) where
   pub is-place : isPlace samples s k ≡ true → Place
   unfolding isPlace
   is-place e =
-      let x = two (eqb (length samples) frameSamples) (ltb s slots && ltb k samplesSize) e in
+      let x = two (eqb (length samples) majorSamples) (ltb s slots && ltb k samplesSize) e in
       let y = two (ltb s slots) (ltb k samplesSize) (x .1) in
-      record { size = eqb-true (length samples) frameSamples (x .0); slot = ltb-true s slots (y .0); number = ltb-true k samplesSize (y .1) }
+      record { size = eqb-true (length samples) majorSamples (x .0); slot = ltb-true s slots (y .0); number = ltb-true k samplesSize (y .1) }
 
 module _ (m : Major) (samples : List ℤ) (s k : ℕ) where
   -- by the two tests

@@ -28,7 +28,7 @@ use Rattle.state.proofs.Facts.{facts}
 use Rattle.state.proofs.Decisions.{exactly}
 use Rattle.state.proofs.Told.{science-type}
 use Rattle.reader.specs.Buffers.{Buffers, worked}
-use Rattle.reader.specs.Guard.{carriesCell, cellHeld, alreadyHeld, typeOf, joinsOpen, guardHolds, guardedRules, guardedNumber, guardedOf, unsound}
+use Rattle.reader.specs.Guard.{carriesCell, cellHeld, alreadyHeld, inputType, joinsOpen, guardHolds, guardedRules, guardedNumber, guardedOf, unsound}
 use Rattle.reader.specs.Guard.{CellsByMark, ByMark, CantHit, CanHit, Is13, SameStep, No13}
 use Rattle.reader.specs.Steps.{input, stepped}
 
@@ -73,10 +73,10 @@ pub by-mark : ByMark
 unfolding guardHolds
 by-mark i = go (carriesScience (fieldsOf i .kind)) (science-type (i .bytes))
   where
-    go : (c : Bool) → (c ≡ true → typeOf i < types)
-        → not (c && (joinsOpen i && alreadyHeld (i .state .accumulation .held) (typeOf i)))
-        ≡ not (c && (joinsOpen i && bitSet (i .state .accumulation .held) (typeOf i)))
-    go true t = rw (cells-by-mark (i .state .accumulation .held) (typeOf i) (t refl))
+    go : (c : Bool) → (c ≡ true → inputType i < types)
+        → not (c && (joinsOpen i && alreadyHeld (i .state .accumulation .held) (inputType i)))
+        ≡ not (c && (joinsOpen i && bitSet (i .state .accumulation .held) (inputType i)))
+    go true t = rw (cells-by-mark (i .state .accumulation .held) (inputType i) (t refl))
     go false t = refl
 
 -- one that joins is of a type that isn't held
@@ -96,8 +96,8 @@ cant-hit s e b r = by-mark i ∙ go (carriesScience (fieldsOf i .kind)) (joinsOp
     i : Input
     i = input s b r
 
-    go : (c j : Bool) → joinsOpen i ≡ j → not (c && (j && bitSet (s .accumulation .held) (typeOf i))) ≡ true
-    go true true q = rw (free (s .accumulation) (typeOf i) (countAt i) (among s e) q)
+    go : (c j : Bool) → joinsOpen i ≡ j → not (c && (j && bitSet (s .accumulation .held) (inputType i))) ≡ true
+    go true true q = rw (free (s .accumulation) (inputType i) (countAt i) (among s e) q)
     go true false q = refl
     go false j q = refl
 

@@ -12,7 +12,7 @@ use Rattle.buffers.specs.Copying.{copied}
 use Rattle.buffers.proofs.Patches.{length-patch}
 use Rattle.bursts.specs.Bursts.{snapshotSize}
 use Rattle.cells.specs.Laying.{cellsSize}
-use Rattle.major.specs.Major.{frameSamples}
+use Rattle.major.specs.Major.{majorSamples}
 use Rattle.snapshot.specs.declared.PacketWork.{PacketWork}
 use Rattle.reader.specs.Buffers.{Buffers, sizedBy, sized, copiedBy, clearedBy, packetLaidBy, packetAfter}
 
@@ -27,8 +27,8 @@ length-cleared false z d = refl
 pub record Sizes (b : Buffers) : Type 0 where
   pub cells : length (b .openCells) ≡ cellsSize
   pub finished-cells : length (b .finishedCells) ≡ cellsSize
-  pub samples : length (b .openSamples) ≡ frameSamples
-  pub finished-samples : length (b .finishedSamples) ≡ frameSamples
+  pub samples : length (b .openSamples) ≡ majorSamples
+  pub finished-samples : length (b .finishedSamples) ≡ majorSamples
   pub snapshot : length (b .openSnapshot) ≡ snapshotSize
   pub first-snapshot : length (b .firstSnapshot) ≡ snapshotSize
   pub second-snapshot : length (b .secondSnapshot) ≡ snapshotSize

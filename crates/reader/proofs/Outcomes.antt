@@ -11,12 +11,11 @@ use lib.ListN.{length, take, drop, length-take, length-drop}
 use lib.Seq.{take-all}
 use borrow.Author.Tests.{eq-eqb, eqb-true, eqb-false}
 use Rattle.prelude.proofs.Conds.{two}
-use Rattle.record.specs.Layout.{size, packetSize, packetBytes, frameCode}
+use Rattle.record.specs.Layout.{size, packetSize, packetBytes, frameCode, typeIn}
 use Rattle.record.specs.Frame.{carriesBurst, carriesTwo, kindOf}
 use Rattle.record.specs.Parts.{PacketAtIs, hasBurst}
 use Rattle.record.specs.Contents.{recordOf}
 use Rattle.carriage.specs.Carriage.{types}
-use Rattle.cells.specs.Laying.{frameType}
 use Rattle.bursts.specs.Bursts.{burstSize, snapshotSize}
 use Rattle.snapshot.specs.declared.PacketWork.{PacketWork}
 use Rattle.state.specs.Soundness.{sound}
@@ -52,7 +51,7 @@ and-false true = refl
 pub of-whole : (s : State) (b : Buffers) (r : List ℕ) {x : Stepped} {b′ : Buffers} → StepIs s b (take (length r - 0) (drop 0 r)) x b′ → StepIs s b r x b′
 of-whole s b r {x} {b′} h = subst (λ (q : List ℕ). StepIs s b q x b′) (take-all (length r - 0) r (omega arith)) h
 
-frame-type : (r : List ℕ) → recordOf r .«frame_type» < 36 → frameType (frameCode (packetBytes r)) < types
+frame-type : (r : List ℕ) → recordOf r .«frame_type» < 36 → typeIn (frameCode (packetBytes r)) < types
 unfolding recordOf
 frame-type r h = h
 

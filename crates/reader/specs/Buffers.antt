@@ -14,7 +14,7 @@ use Rattle.record.specs.Parts.{burstBytes}
 use Rattle.mag.specs.Samples.{samplesSize, samples}
 use Rattle.bursts.specs.Bursts.{snapshotSize}
 use Rattle.cells.specs.Laying.{cellsSize, laidFrame}
-use Rattle.major.specs.Major.{frameSamples}
+use Rattle.major.specs.Major.{majorSamples}
 use Rattle.major.specs.declared.SlotWork.{SlotWork}
 use Rattle.snapshot.specs.declared.PacketWork.{PacketWork}
 use Rattle.state.specs.declared.closed.Works.{Works}
@@ -41,7 +41,7 @@ buffers oc fc os fs o f s = record {
 
 -- "open and finished cells (2,997 bytes each), open and finished samples (864 signed 16-bit numbers each)"
 abbrev pub fourSized : ℕ → ℕ → ℕ → ℕ → Bool
-fourSized oc fc os fs = eqb oc cellsSize && (eqb fc cellsSize && (eqb os frameSamples && eqb fs frameSamples))
+fourSized oc fc os fs = eqb oc cellsSize && (eqb fc cellsSize && (eqb os majorSamples && eqb fs majorSamples))
 
 -- "one open and two finished buffers of 1,640 are lent"
 abbrev pub threeSized : ℕ → ℕ → ℕ → Bool

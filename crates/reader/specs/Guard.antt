@@ -36,15 +36,15 @@ unfoldable pub alreadyHeld : ℕ → ℕ → Bool
 alreadyHeld held u = somewhere (λ p. carriesCell u p && cellHeld held p) cells
 
 -- the type of the record, and whether it joins the open accumulation
-abbrev pub typeOf : Input → ℕ
-typeOf i = fieldsOf i .«frame_type»
+abbrev pub inputType : Input → ℕ
+inputType i = fieldsOf i .«frame_type»
 
 abbrev pub joinsOpen : Input → Bool
-joinsOpen i = joins (i .state .accumulation) (typeOf i) (countAt i)
+joinsOpen i = joins (i .state .accumulation) (inputType i) (countAt i)
 
 -- 13: it has science, and "a cell of this type is already held in the accumulation it joins"
 unfoldable pub guardHolds : Input → Bool
-guardHolds i = not (carriesScience (fieldsOf i .kind) && (joinsOpen i && alreadyHeld (i .state .accumulation .held) (typeOf i)))
+guardHolds i = not (carriesScience (fieldsOf i .kind) && (joinsOpen i && alreadyHeld (i .state .accumulation .held) (inputType i)))
 
 -- the rules with the guard behind them, the number of the first that fails, or 0, and the decision by it
 unfoldable pub guardedRules : List (Rule Input)
@@ -70,7 +70,7 @@ CellsByMark = (held u : ℕ) → u < types → alreadyHeld held u ≡ bitSet hel
 
 -- and the guard comes to a test of that mark, on every input
 abbrev pub ByMark : Type 0
-ByMark = (i : Input) → guardHolds i ≡ not (carriesScience (fieldsOf i .kind) && (joinsOpen i && bitSet (i .state .accumulation .held) (typeOf i)))
+ByMark = (i : Input) → guardHolds i ≡ not (carriesScience (fieldsOf i .kind) && (joinsOpen i && bitSet (i .state .accumulation .held) (inputType i)))
 
 -- "from a state that passes rule 1 rule 13 can't hit": with any buffers and any record
 abbrev pub CantHit : Type 0
@@ -82,7 +82,7 @@ unsound = record { first = 100; held = 2 ^ 6; «last_type» = 5; «last_count» 
 
 abbrev pub CanHit : Type 0
 CanHit =
-    (i : Input) → i .state .accumulation ≡ unsound → carriesScience (fieldsOf i .kind) ≡ true → typeOf i ≡ 6 → countAt i ≡ 101
+    (i : Input) → i .state .accumulation ≡ unsound → carriesScience (fieldsOf i .kind) ≡ true → inputType i ≡ 6 → countAt i ≡ 101
     → (sound (i .state) ≡ false) × (guardHolds i ≡ false)
 
 -- the guard is rule 13 of the rules with it

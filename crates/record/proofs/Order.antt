@@ -11,7 +11,7 @@ use borrow.Author.Tests.{eqb-true, eqb-false, eq-eqb, ne-eqb}
 use Rattle.record.specs.Layout.{size}
 use Rattle.prelude.specs.Rules.{firstBroken, FirstBroken}
 use Rattle.prelude.proofs.Order.{first-broken}
-use Rattle.record.specs.Rules.{rules, broken, verdictOf, sizeHolds, numberOf, VerdictIs, Exactly}
+use Rattle.record.specs.Rules.{rules, broken, verdictOf, sizeHolds, verdictNumber, VerdictIs, Exactly}
 use Rattle.record.specs.declared.rules.Verdict.the-variants.{Passes, Refused}
 
 module _ (r : List ℕ) where
@@ -51,13 +51,13 @@ module _ (r : List ℕ) where
 
   -- what the code of `check` asks
   pub wrong-size : (length r ≡ size → ⊥) → VerdictIs r (Refused 2)
-  unfolding rules firstBroken broken sizeHolds numberOf
+  unfolding rules firstBroken broken sizeHolds verdictNumber
   wrong-size h = let e = ne-eqb (length r) size h in record { is = rw e; number = rw e }
 
   pub all-hold : (n : ℕ) → n ≡ broken r → n ≡ 0 → VerdictIs r Passes
-  unfolding numberOf
+  unfolding verdictNumber
   all-hold n e z = record { is = sym (zero-passes (broken r) (sym e ∙ z)); number = sym z ∙ e }
 
   pub one-fails : (n : ℕ) → n ≡ broken r → (n ≡ 0 → ⊥) → VerdictIs r (Refused n)
-  unfolding numberOf
+  unfolding verdictNumber
   one-fails n e z = record { is = rw (← e, ne-eqb n 0 z); number = e }

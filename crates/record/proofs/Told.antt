@@ -8,7 +8,7 @@ use lib.ListN.{length, length-take, length-drop}
 use borrow.Author.Tests.{eq-eqb}
 use Rattle.record.specs.Layout.{size, packetSize, packetBytes}
 use Rattle.record.proofs.Opened.{sized}
-use Rattle.record.specs.Rules.{broken, numberOf, VerdictIs}
+use Rattle.record.specs.Rules.{broken, verdictNumber, VerdictIs}
 use Rattle.record.specs.Contents.{recordOf, contentsOf, contentsNumber, ContentsIs}
 use Rattle.record.specs.Parts.{packetOf}
 use Rattle.record.specs.declared.Record.{Record}
@@ -19,12 +19,12 @@ use Rattle.record.specs.declared.values.Contents.the-variants as content
 
 module _ (r : List ℕ) (v : Verdict) (is : VerdictIs r v) where
   pub passes-told : v ≡ Passes → 0 ≡ broken r
-  unfolding numberOf
-  passes-told e = sym (ap numberOf e) ∙ is .number
+  unfolding verdictNumber
+  passes-told e = sym (ap verdictNumber e) ∙ is .number
 
   pub refused-told : (n : ℕ) → v ≡ Refused n → n ≡ broken r
-  unfolding numberOf
-  refused-told n e = sym (ap numberOf e) ∙ is .number
+  unfolding verdictNumber
+  refused-told n e = sym (ap verdictNumber e) ∙ is .number
 
 module _ (r : List ℕ) (c : Contents) (is : ContentsIs r c) where
   -- the fields, of a record that passes

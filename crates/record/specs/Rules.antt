@@ -82,14 +82,14 @@ abbrev pub verdictOf : ℕ → Verdict
 verdictOf n = cond (eqb n 0) Passes (Refused n)
 
 -- 01's number of each case
-unfoldable pub numberOf : Verdict → ℕ
-numberOf Passes = 0
-numberOf (Refused n) = n
+unfoldable pub verdictNumber : Verdict → ℕ
+verdictNumber Passes = 0
+verdictNumber (Refused n) = n
 
 -- the verdict on a record; and its number, which follows, since 01's numbers are what a promise goes by
 pub record VerdictIs (r : List ℕ) (v : Verdict) : Type 0 where
   pub is : v ≡ verdictOf (broken r)
-  pub number : numberOf v ≡ broken r
+  pub number : verdictNumber v ≡ broken r
 
 -- refused with n exactly when rule n fails and those before it in the list hold; passes exactly when all hold. Proved for every
 -- list of bytes: `exactly` in proofs/Order.antt

@@ -9,9 +9,9 @@ use Rattle.record.specs.declared.signal.Level.the-variants.{Finite, NotFinite}
 use Rattle.shapes.specs.declared.fields.CFields.{CFields}
 
 -- 1 for a finite level, else 0
-unfoldable pub mark : Level → ℕ
-mark (Finite x) = 1
-mark (NotFinite b) = 0
+unfoldable pub finiteMark : Level → ℕ
+finiteMark (Finite x) = 1
+finiteMark (NotFinite b) = 0
 
 abbrev pub fieldsOut : Record → CFields
 fieldsOut f = record {
@@ -27,8 +27,8 @@ fieldsOut f = record {
   «frame_code» = f .«frame_code»;
   «frame_type» = f .«frame_type»;
   kind = kindNumber (f .kind);
-  «level_finite» = mark (f .reading .level);
-  «quality_finite» = mark (f .reading .quality);
+  «level_finite» = finiteMark (f .reading .level);
+  «quality_finite» = finiteMark (f .reading .quality);
   «second_code» = f .«second_code»;
   spare8 = 0;
   spare16 = 0;

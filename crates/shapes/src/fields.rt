@@ -1,6 +1,6 @@
 // The fields of a record as C has them.
 ghost use mathlib.Core.Path.{_≡_};
-ghost use Rattle.shapes.specs.Fields.{mark, fieldsOut};
+ghost use Rattle.shapes.specs.Fields.{finiteMark, fieldsOut};
 use record::Level;
 use record::Record;
 
@@ -27,7 +27,7 @@ pub struct CFields {
 }
 
 fn mark_of(level: Level) -> u8
-    ensures { λ n. ⌜ n ≡ mark level ⌝ }
+    ensures { λ n. ⌜ n ≡ finiteMark level ⌝ }
 {
     match level {
         Level::Finite(_) => 1,

@@ -8,7 +8,7 @@ use lib.Ieee.{round}
 use Rattle.prelude.specs.Every.{Every}
 use Rattle.bits.specs.Numbers.{bitOf, bit, join, number}
 use Rattle.mag.specs.Field.{hasField, fieldOf}
-use Rattle.counts.specs.Codes.{lowest, highest, divisor, rangeOf}
+use Rattle.counts.specs.Codes.{codeLow, codeHigh, divisor, rangeOf}
 use Rattle.angles.specs.Angles.{lines, angleAt}
 use Rattle.accumulation.specs.Accumulation.{isOpen, fewest, most, gap, joins}
 use Rattle.accumulation.specs.declared.Accumulation.{Accumulation}
@@ -26,7 +26,7 @@ _then_ : {A B : Type 0} → A → B → A × B
 row then rows = (row, rows)
 
 pub sixteen : Every Holds table
-unfolding Every Holds table rangeOf divisor lowest highest number join bit bitOf hasField fieldOf round angleAt lines
+unfolding Every Holds table rangeOf divisor codeLow codeHigh number join bit bitOf hasField fieldOf round angleAt lines
 sixteen =
     (refl, refl)
     then (refl, refl)

@@ -16,7 +16,7 @@ use Rattle.clock.specs.declared.Clock.{Clock}
 use Rattle.snapshot.specs.Snapshot.{isOpen, packetType, isPart, markOf, joins, extends, renews, passes, stepPacket, stepSnapshot}
 use Rattle.snapshot.specs.Soundness.{packetsAmong, lastHighest, firstFits, noneOpen, snapshotSound}
 use Rattle.snapshot.specs.Place.{leaves, steppedAt}
-use Rattle.snapshot.specs.inner.Passing.{isQuiet}
+use Rattle.snapshot.specs.inner.Passing.{passesBy}
 use Rattle.snapshot.specs.declared.Snapshot.{Snapshot}
 use Rattle.snapshot.specs.declared.PacketStep.{PacketStep}
 
@@ -147,8 +147,8 @@ either-way true e = e
 either-way false e = refl
 
 -- where none is open and no packet comes, nothing changes
-pub quiet-leaves : (c : Clock) (s : Snapshot) (d a b : ℕ) → isQuiet s a b ≡ true → leaves s ≡ steppedAt c s d a b
-unfolding isQuiet steppedAt stepSnapshot stepPacket isPart
+pub quiet-leaves : (c : Clock) (s : Snapshot) (d a b : ℕ) → passesBy s a b ≡ true → leaves s ≡ steppedAt c s d a b
+unfolding passesBy steppedAt stepSnapshot stepPacket isPart
 quiet-leaves c s d a b e =
     let p = two (eqb (s .held) 0) _ e in
     let q = two (eqb a 0) (eqb b 0) (p .1) in

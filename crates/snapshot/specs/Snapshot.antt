@@ -6,7 +6,7 @@ use lib.Dec.{eqb, ltb, leb}
 use Rattle.prelude.specs.Marks.{bitSet, marked}
 use Rattle.buffers.specs.Working.{noWork}
 use Rattle.buffers.specs.declared.work.Work.{Work}
-use Rattle.bursts.specs.Bursts.{firstPacket, packetAt}
+use Rattle.bursts.specs.Bursts.{firstPacket, packetPlace}
 use Rattle.record.specs.Layout.{typeIn}
 use Rattle.clock.specs.declared.Clock.{Clock}
 use Rattle.snapshot.specs.declared.Snapshot.{Snapshot}
@@ -69,7 +69,7 @@ abbrev pub packetWork : Work → ℕ → PacketWork
 packetWork w at = record { work = w; at = at }
 
 abbrev pub lays : ℕ → Bool → Bool → PacketWork
-lays code copies clears = packetWork (record { copies = copies; clears = clears; lays = true }) (packetAt (packetType code))
+lays code copies clears = packetWork (record { copies = copies; clears = clears; lays = true }) (packetPlace (packetType code))
 
 -- a packet that is none of a snapshot's
 abbrev pub passes : Snapshot → ℕ → PacketStep

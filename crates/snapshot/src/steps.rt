@@ -4,7 +4,7 @@ ghost use mathlib.Core.Path.{_≡_};
 ghost use Prim.Native.Nat.{_^_, _<_};
 ghost use Rattle.snapshot.specs.Snapshot.{noSnapshot, unreported, reported, packetWork, isPart, lays, passes, extends, renews, stepPacket, together};
 ghost use Rattle.snapshot.specs.Place.{leaves, steppedAt};
-ghost use Rattle.snapshot.specs.inner.Passing.{isQuiet};
+ghost use Rattle.snapshot.specs.inner.Passing.{passesBy};
 use crate::FIRST;
 use crate::PacketStep;
 use crate::PacketWork;
@@ -168,8 +168,8 @@ fn both(x: PacketStep, y: PacketStep) -> SnapshotStep
 }
 
 // Is none open, and comes no packet? So it is with every record outside a playback: then nothing is done.
-fn is_quiet(s: Snapshot, one: u8, two: u8) -> bool
-    ensures { λ b. ⌜ b ≡ isQuiet s one two ⌝ }
+fn passes_by(s: Snapshot, one: u8, two: u8) -> bool
+    ensures { λ b. ⌜ b ≡ passesBy s one two ⌝ }
 {
     (s.held == 0) & ((one == 0) & (two == 0))
 }
@@ -191,7 +191,7 @@ fn still(s: Snapshot) -> SnapshotStep
 pub fn step(clock: Clock, s: Snapshot, d: u64, one: u8, two: u8) -> SnapshotStep
     ensures { λ x. ⌜ x ≡ steppedAt clock s d one two ⌝ }
 {
-    if is_quiet(s, one, two) {
+    if passes_by(s, one, two) {
         return still(s);
     }
     if PACKET_MARKS <= s.held {

@@ -19,24 +19,24 @@ use Rattle.cells.proofs.Bytes.{not-there}
 use Rattle.electrons.specs.Questions.{CountIs}
 use Rattle.electrons.specs.declared.questions.Count.{Count}
 use Rattle.electrons.proofs.Meant.{asked-told}
-use Rattle.snapshots.specs.Questions.{askedAt, hasAngle, angleAt}
+use Rattle.snapshots.specs.Questions.{askedAt, hasAngle, angleByte}
 use Rattle.snapshots.specs.Raw.{holdsByte, askable, ByteIs, magAngleByte, isMagAngle, MagAngleIs}
-use Rattle.snapshots.specs.inner.Places.{byteOf, countAt}
+use Rattle.snapshots.specs.inner.Places.{rawByte, countedAt}
 
 -- the steps before one, 14 at most
 pub steps-before : (angles e : ℕ) → e ≤ 14 → angles * e ≤ 14 * angles
 steps-before angles e h = omega (arith, mul-le-mul-right angles h)
 
 -- 15 steps that lie in the snapshot
-pub angle-in : (from angles e a : ℕ) → from + 15 * angles ≤ snapshotSize → hasAngle angles e a ≡ true → angleAt from angles e a < snapshotSize
+pub angle-in : (from angles e a : ℕ) → from + 15 * angles ≤ snapshotSize → hasAngle angles e a ≡ true → angleByte from angles e a < snapshotSize
 angle-in from angles e a l t =
     let x = two (ltb e 15) (ltb a angles) t in
     let h : e ≤ 14 = omega (arith, ltb-true e 15 (x .0)) in
     omega (arith, ltb-true a angles (x .1), steps-before angles e h)
 
 pub told : (s : List ℕ) (held p : ℕ) (d : Divided) (t : Bool) → (t ≡ true → p < snapshotSize)
-    → (q : ℕ) (x : Count) → q ≡ cond t p snapshotSize → x ≡ countAt s held q d → CountIs (askedAt t p d s held) x
-told s held p d t i q x e = asked-told (askable s held) (holdsByte held) (λ k. getD s k 0) snapshotSize p d t i q (byteOf s held q) x e refl
+    → (q : ℕ) (x : Count) → q ≡ cond t p snapshotSize → x ≡ countedAt s held q d → CountIs (askedAt t p d s held) x
+told s held p d t i q x e = asked-told (askable s held) (holdsByte held) (λ k. getD s k 0) snapshotSize p d t i q (rawByte s held q) x e refl
 
 module _ (s : List ℕ) (held k : ℕ) where
   pub no-angle : anglesPart .size ≤ k → MagAngleIs s held k raw.NoSuchPlace

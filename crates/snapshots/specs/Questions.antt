@@ -20,16 +20,16 @@ askedAt inBounds p d s held = countAsked (askable s held && inBounds) (holdsByte
 abbrev pub hasAngle : ℕ → ℕ → ℕ → Bool
 hasAngle angles e a = ltb e 15 && ltb a angles
 
-abbrev pub angleAt : ℕ → ℕ → ℕ → ℕ → ℕ
-angleAt from angles e a = from + angles * e + a
+abbrev pub angleByte : ℕ → ℕ → ℕ → ℕ → ℕ
+angleByte from angles e a = from + angles * e + a
 
 -- "The 1320 bytes of 3D data are in the same format as described in section 2.3.2": 88 angles a step
 abbrev pub threeAsked : List ℕ → ℕ → ℕ → ℕ → Asked
-threeAsked s held e b = askedAt (hasAngle 88 e b) (angleAt (threePart .at) 88 e b) By1 s held
+threeAsked s held e b = askedAt (hasAngle 88 e b) (angleByte (threePart .at) 88 e b) By1 s held
 
 -- "16 pitch angle samples for each of 15 energies"
 abbrev pub pitchAsked : List ℕ → ℕ → ℕ → ℕ → Asked
-pitchAsked s held e a = askedAt (hasAngle 16 e a) (angleAt (pitchPart .at) 16 e a) By1 s held
+pitchAsked s held e a = askedAt (hasAngle 16 e a) (angleByte (pitchPart .at) 16 e a) By1 s held
 
 -- "The ER Header is in the same format": Total and Rate, header bytes 2 and 3, divided by 16
 abbrev pub headerAsked : ℕ → List ℕ → ℕ → Asked

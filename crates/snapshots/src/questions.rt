@@ -3,7 +3,7 @@ ghost use mathlib.Core.Path.{_≡_};
 ghost use Prim.Native.Nat.{_≤_};
 ghost use Rattle.electrons.specs.Questions.{CountIs, totalCell, rateCell};
 ghost use Rattle.snapshots.specs.Questions.{threeAsked, pitchAsked, headerAsked};
-ghost use Rattle.snapshots.specs.inner.Places.{anglePlace, countAt};
+ghost use Rattle.snapshots.specs.inner.Places.{anglePlace, countedAt};
 use bursts::SNAPSHOT;
 use counts::Divided;
 use electrons::Count;
@@ -26,7 +26,7 @@ fn angle_place(at: usize, angles: usize, step: usize, angle: usize) -> usize
 
 // What the byte at a place means.
 fn count_at(snapshot: &[u8], held: u32, place: usize, divided: Divided) -> Count
-    ensures { λ x. ⌜ x ≡ countAt (now (snapshot .entry)) held place divided ⌝ }
+    ensures { λ x. ⌜ x ≡ countedAt (now (snapshot .entry)) held place divided ⌝ }
 {
     electrons::meaning_of(
         crate::raw::byte(snapshot, held, place),

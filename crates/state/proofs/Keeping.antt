@@ -6,7 +6,7 @@ use Prim.Native.Nat.{_<_}
 use native.Mathlib.Omega.{arith}
 use lib.Dec.{eqb}
 use borrow.Author.Tests.{eqb-true, eqb-false}
-use Rattle.clock.specs.Clock.{counts, unset, isLater, hasTurn, clockSound}
+use Rattle.clock.specs.Clock.{fullCounts, unset, isLater, hasTurn, clockSound}
 use Rattle.clock.specs.declared.Clock.{Clock}
 use Rattle.clock.proofs.Laws.{dated-above, dated-below, accepted-sound, unset-sound, unset-is}
 use Rattle.accumulation.specs.Accumulation.{noAccumulation}
@@ -63,7 +63,7 @@ module _ (i : Input) (kept : Sound (i .state)) (p : Passed i) where
   above : i .state .clock .any ≡ true → i .state .clock .last < countAt i
   above = dated-above (i .state .clock) (fieldsOf i) (later-so i (p .later))
 
-  small : countAt i < counts
+  small : countAt i < fullCounts
   small = dated-below (i .state .clock) (fieldsOf i) (turn-so i (p .turn))
 
   acceptance-sound : Sound (acceptance (i .state) (fieldsOf i) (countAt i) (magRange i) .stepped .state)

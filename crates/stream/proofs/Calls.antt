@@ -20,7 +20,7 @@ use Rattle.bursts.specs.Bursts.{snapshotSize}
 use Rattle.cells.specs.Laying.{cellsSize, laidFrame}
 use Rattle.accumulation.specs.Accumulation.{isOpen, joins, joined, started, passed, unreported, reported}
 use Rattle.accumulation.specs.Accumulation.{passes, extends, renews, stepAccumulation}
-use Rattle.major.specs.Major.{frameSamples, slotOf, majorOpen, noMajor, continues, into, majorUnreported, majorReported, stays, turns, stepMajor}
+use Rattle.major.specs.Major.{majorSamples, slotOf, majorOpen, noMajor, continues, into, majorUnreported, majorReported, stays, majorRenews, stepMajor}
 use Rattle.state.specs.Deciding.{numberOf, refusal, acceptance, decidedOf, answerNumber}
 use Rattle.state.specs.declared.State.{State}
 use Rattle.accumulation.specs.declared.Accumulation.{Accumulation}
@@ -36,7 +36,7 @@ use Rattle.state.proofs.Decisions.{accepted-is, refused-is}
 use Rattle.reader.specs.Buffers.{Buffers, copiedBy, cellsAfter, samplesAfter, worked}
 use Rattle.reader.specs.Steps.{input}
 use Rattle.gathering.specs.Gathering.{Gatherer, gather}
-use Rattle.stream.specs.Running.{Call, Trace, step, ClosedAccumulation, ClosedMajor, called, accumulationOut, majorOut, accumulations, majors}
+use Rattle.stream.specs.Running.{Call, Trace, step, ClosedAccumulation, ClosedMajor, called, handedAccumulation, handedMajor, accumulations, majors}
 use Rattle.stream.specs.Sending.{realTime, Kept, hasMag}
 use Rattle.stream.specs.Cutting.{at, typeOf}
 use Rattle.stream.specs.Filling.{packet}
@@ -53,7 +53,7 @@ abbrev pub noCells : List ℕ
 noCells = replicate cellsSize 0
 
 abbrev pub noSamples : List ℤ
-noSamples = replicate frameSamples (pos 0)
+noSamples = replicate majorSamples (pos 0)
 
 abbrev pub noBytes : List ℕ
 noBytes = replicate snapshotSize 0
@@ -116,22 +116,22 @@ refused-call s b r h = call-is s b r _ (refused-is (input s b r) (λ z. omega (a
 abbrev reportedBy : Bool → Accumulation → AccumulationReport
 reportedBy t a = cond t (record { closed = true; first = a .first; held = a .held }) unreported
 
-pub cells-out : (a : Accumulation) (c d : List ℕ) → accumulationOut (reported a) (copiedBy (isOpen a) c d) ≡ closing a c
+pub cells-out : (a : Accumulation) (c d : List ℕ) → handedAccumulation (reported a) (copiedBy (isOpen a) c d) ≡ closing a c
 unfolding closing
 cells-out a c d = go (isOpen a)
   where
-    go : (t : Bool) → accumulationOut (reportedBy t a) (copiedBy t c d) ≡ cond t (record { report = reportedBy true a; cells = c } ∷ []) []
+    go : (t : Bool) → handedAccumulation (reportedBy t a) (copiedBy t c d) ≡ cond t (record { report = reportedBy true a; cells = c } ∷ []) []
     go true = refl
     go false = refl
 
 abbrev majorBy : Bool → Major → MajorReport
 majorBy t m = cond t (record { closed = true; frame = m }) majorUnreported
 
-pub samples-out : (m : Major) (c d : List ℤ) → majorOut (majorReported m) (copiedBy (majorOpen m) c d) ≡ majorClosing m c
+pub samples-out : (m : Major) (c d : List ℤ) → handedMajor (majorReported m) (copiedBy (majorOpen m) c d) ≡ majorClosing m c
 unfolding majorClosing
 samples-out m c d = go (majorOpen m)
   where
-    go : (t : Bool) → majorOut (majorBy t m) (copiedBy t c d) ≡ cond t (record { frame = m; samples = c } ∷ []) []
+    go : (t : Bool) → handedMajor (majorBy t m) (copiedBy t c d) ≡ cond t (record { frame = m; samples = c } ∷ []) []
     go true = refl
     go false = refl
 
@@ -176,7 +176,7 @@ module _ (s : State) (b : Buffers) (x : Kept) (e : numberOf (input s b (x .bytes
 
         go : (p j : Bool) → p ≡ realTime (x .bytes)
             → accumulations t ≡ accumulate (stepOf p j .next) (cellsAfter (stepOf p j .work) (packet x) (b .openCells)) xs
-            → accumulationOut (stepOf p j .report) (copiedBy (stepOf p j .work .copies) (b .openCells) (b .finishedCells)) ++ accumulations t
+            → handedAccumulation (stepOf p j .report) (copiedBy (stepOf p j .work .copies) (b .openCells) (b .finishedCells)) ++ accumulations t
             ≡ cond (realTime (x .bytes))
             (cond j
             (accumulate (joined (s .accumulation) (typeOf x) (at x)) (cellsWith x (b .openCells)) xs)
@@ -191,7 +191,7 @@ module _ (s : State) (b : Buffers) (x : Kept) (e : numberOf (input s b (x .bytes
     FromSamples c = majors t ≡ collect (c .result .state .major) (c .left .openSamples) xs
         → majors (step c t) ≡ collect (s .major) (b .openSamples) (x ∷ xs)
 
-    pub samples-call : length (b .openSamples) ≡ frameSamples → FromSamples (called s b (x .bytes))
+    pub samples-call : length (b .openSamples) ≡ majorSamples → FromSamples (called s b (x .bytes))
     unfolding stepMajor samplesWith acceptance majors gather majorWith
     samples-call n = subst⁻¹ FromSamples is-taken (λ h. go (continues (s .major) (at x)) h)
       where
@@ -199,10 +199,10 @@ module _ (s : State) (b : Buffers) (x : Kept) (e : numberOf (input s b (x .bytes
         stepOf p =
             cond p
             (stays (s .major) (at x) (hasMag x) (range (magBytes (packet x))) (recordOf (x .bytes) .subcom))
-            (turns (s .major) (at x) (hasMag x) (range (magBytes (packet x))) (recordOf (x .bytes) .subcom))
+            (majorRenews (s .major) (at x) (hasMag x) (range (magBytes (packet x))) (recordOf (x .bytes) .subcom))
 
         go : (p : Bool) → majors t ≡ collect (stepOf p .next) (samplesAfter (stepOf p .work) (packet x) (b .openSamples)) xs
-            → majorOut (stepOf p .report) (copiedBy (stepOf p .work .work .copies) (b .openSamples) (b .finishedSamples)) ++ majors t
+            → handedMajor (stepOf p .report) (copiedBy (stepOf p .work .work .copies) (b .openSamples) (b .finishedSamples)) ++ majors t
             ≡ cond p
             (collect (majorWith x (s .major)) (samplesWith x (b .openSamples)) xs)
             (majorClosing (s .major) (b .openSamples) ++ collect (majorWith x noMajor) (samplesWith x noSamples) xs)

@@ -16,7 +16,7 @@ use Rattle.stream.specs.Filling.{packet}
 use Rattle.gathering.specs.Lists.{those}
 use Rattle.gathering.specs.Laying.{Rising}
 use Rattle.gathering.proofs.Laying.{rising-down}
-use Rattle.stream.specs.Sending.{realTime, next, Fate, kept, removed, extra, Sends, Kept, keptOf, reals}
+use Rattle.stream.specs.Sending.{realTime, nextReal, Fate, kept, removed, extra, Sends, Kept, keptOf, reals}
 use Rattle.stream.specs.Cutting.{at, typeOf}
 
 -- x is the next kept: count c, real-time number k and l lost ones come before what was sent from here on
@@ -31,7 +31,7 @@ pub record Next (c k l : ℕ) (x : Kept) : Type 0 where
 
 unfoldable pub Chain : ℕ → ℕ → ℕ → List Kept → Type 0
 Chain c k l [] = Unit {0}
-Chain c k l (x ∷ xs) = Next c k l x × Chain (at x + 1) (next (x .serial) (x .bytes)) (x .lost) xs
+Chain c k l (x ∷ xs) = Next c k l x × Chain (at x + 1) (nextReal (x .serial) (x .bytes)) (x .lost) xs
 
 -- one more was sent before, and lost
 loosen : (xs : List Kept) (c k k′ l : ℕ) → k ≤ k′ → k′ ≤ k + 1 → Chain (c + 1) k′ (l + 1) xs → Chain c k l xs
@@ -51,10 +51,10 @@ loosen (x ∷ xs) c k k′ l p q h =
       h .1,
     )
 
-next-near : (k : ℕ) (r : List ℕ) → (k ≤ next k r) × (next k r ≤ k + 1)
+next-near : (k : ℕ) (r : List ℕ) → (k ≤ nextReal k r) × (nextReal k r ≤ k + 1)
 next-near k r = go (realTime r) refl
   where
-    go : (t : Bool) → realTime r ≡ t → (k ≤ next k r) × (next k r ≤ k + 1)
+    go : (t : Bool) → realTime r ≡ t → (k ≤ nextReal k r) × (nextReal k r ≤ k + 1)
     go true e = rw e (omega arith, omega arith)
     go false e = rw e (omega arith, omega arith)
 
@@ -64,7 +64,7 @@ chain [] c k l h = tt
 chain (extra x ∷ xs) c k l h = chain xs c k l h
 chain (removed r ∷ xs) c k l h =
     let n = next-near k r in
-    loosen (keptOf (c + 1) (next k r) (l + 1) xs) c k (next k r) l (n .0) (n .1) (chain xs (c + 1) (next k r) (l + 1) (h .1))
+    loosen (keptOf (c + 1) (nextReal k r) (l + 1) xs) c k (nextReal k r) l (n .0) (n .1) (chain xs (c + 1) (nextReal k r) (l + 1) (h .1))
 chain (kept r ∷ xs) c k l h =
     let p = h .0 in (
       record {
@@ -76,7 +76,7 @@ chain (kept r ∷ xs) c k l h =
         between = omega arith;
         typed = p .typed;
       },
-      chain xs (c + 1) (next k r) l (h .1),
+      chain xs (c + 1) (nextReal k r) l (h .1),
     )
 
 -- a kept real-time record: its number gives its type, and its Frame Code is a byte
@@ -91,7 +91,7 @@ code-below f b = let e = getD-take 168 (drop 286 (f .bytes)) 0 0 (omega arith) �
 pub all-typed : (xs : List Kept) (c k l : ℕ) → Chain c k l xs → Every Typed (reals xs)
 unfolding Chain Every those
 all-typed [] c k l h = tt
-all-typed (x ∷ xs) c k l h = go (realTime (x .bytes)) refl (all-typed xs (at x + 1) (next (x .serial) (x .bytes)) (x .lost) (h .1))
+all-typed (x ∷ xs) c k l h = go (realTime (x .bytes)) refl (all-typed xs (at x + 1) (nextReal (x .serial) (x .bytes)) (x .lost) (h .1))
   where
     n : Next c k l x
     n = h .0
@@ -107,13 +107,13 @@ serial f = f .serial
 pub rising-counts : (xs : List Kept) (c k l : ℕ) → Chain c k l xs → Rising at c xs
 unfolding Chain Rising
 rising-counts [] c k l h = tt
-rising-counts (x ∷ xs) c k l h = (omega (arith, h .0 .counted, h .0 .losing), rising-counts xs (at x + 1) (next (x .serial) (x .bytes)) (x .lost) (h .1))
+rising-counts (x ∷ xs) c k l h = (omega (arith, h .0 .counted, h .0 .losing), rising-counts xs (at x + 1) (nextReal (x .serial) (x .bytes)) (x .lost) (h .1))
 
 pub rising-serials : (xs : List Kept) (c k l : ℕ) → Chain c k l xs → Rising serial k (reals xs)
 unfolding Chain Rising those serial
 rising-serials [] c k l h = tt
-rising-serials (x ∷ xs) c k l h = go (realTime (x .bytes)) refl (rising-serials xs (at x + 1) (next (x .serial) (x .bytes)) (x .lost) (h .1))
+rising-serials (x ∷ xs) c k l h = go (realTime (x .bytes)) refl (rising-serials xs (at x + 1) (nextReal (x .serial) (x .bytes)) (x .lost) (h .1))
   where
-    go : (t : Bool) → realTime (x .bytes) ≡ t → Rising serial (next (x .serial) (x .bytes)) (reals xs) → Rising serial k (reals (x ∷ xs))
+    go : (t : Bool) → realTime (x .bytes) ≡ t → Rising serial (nextReal (x .serial) (x .bytes)) (reals xs) → Rising serial k (reals (x ∷ xs))
     go true e r = rw e (h .0 .rising, rw e at r)
     go false e r = rw e (rising-down serial (reals xs) k (x .serial) (h .0 .rising) (rw e at r))

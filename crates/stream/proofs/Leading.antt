@@ -13,7 +13,7 @@ use Rattle.reader.specs.Buffers.{Buffers}
 use Rattle.gathering.specs.Lists.{Neighbours}
 use Rattle.gathering.specs.Laying.{Rising}
 use Rattle.stream.specs.Running.{run, traceOf}
-use Rattle.stream.specs.Sending.{sentCount, next, Fate, kept, removed, extra, SentAt, Sends, fed, ExtraRefused, Kept, keptOf}
+use Rattle.stream.specs.Sending.{sentCount, nextReal, Fate, kept, removed, extra, SentAt, Sends, fed, ExtraRefused, Kept, keptOf}
 use Rattle.stream.specs.Sending.{unspoiled, Near, WithinTurns}
 use Rattle.stream.specs.Cutting.{at}
 use Rattle.stream.proofs.Chains.{Chain, chain, rising-counts}
@@ -26,8 +26,8 @@ sent-round c d k r e s = record { bytes = s .bytes; passes = s .passes; counted 
 pub sends-round : (xs : List Fate) (c d k : ℕ) → ownOf c ≡ ownOf d → Sends c k xs → Sends d k xs
 unfolding Sends
 sends-round [] c d k e h = tt
-sends-round (kept r ∷ xs) c d k e h = (sent-round c d k r e (h .0), sends-round xs (c + 1) (d + 1) (next k r) (omega arith) (h .1))
-sends-round (removed r ∷ xs) c d k e h = (sent-round c d k r e (h .0), sends-round xs (c + 1) (d + 1) (next k r) (omega arith) (h .1))
+sends-round (kept r ∷ xs) c d k e h = (sent-round c d k r e (h .0), sends-round xs (c + 1) (d + 1) (nextReal k r) (omega arith) (h .1))
+sends-round (removed r ∷ xs) c d k e h = (sent-round c d k r e (h .0), sends-round xs (c + 1) (d + 1) (nextReal k r) (omega arith) (h .1))
 sends-round (extra x ∷ xs) c d k e h = sends-round xs c d k e h
 
 -- from the first kept record on
@@ -45,7 +45,7 @@ unfolding unspoiled Sends Chain
 led [] c k h = record { count = 0; serial = 0; chained = tt }
 led (kept r ∷ xs) c k h =
     record { count = ownOf c; serial = k; chained = chain (kept r ∷ xs) (ownOf c) k 0 (own-sends (kept r ∷ xs) c k h) }
-led (removed r ∷ xs) c k h = led xs (c + 1) (next k r) (h .1)
+led (removed r ∷ xs) c k h = led xs (c + 1) (nextReal k r) (h .1)
 led (extra x ∷ xs) c k h = led xs c k h
 
 -- but for the turn the full count of a kept record is the record's own
@@ -53,14 +53,14 @@ own-kept : (xs : List Fate) (c k l : ℕ) → Sends c k xs → Every (λ f. sent
 unfolding Sends keptOf Every
 own-kept [] c k l h = tt
 own-kept (extra x ∷ xs) c k l h = own-kept xs c k l h
-own-kept (removed r ∷ xs) c k l h = own-kept xs (c + 1) (next k r) (l + 1) (h .1)
-own-kept (kept r ∷ xs) c k l h = (h .0 .counted, own-kept xs (c + 1) (next k r) l (h .1))
+own-kept (removed r ∷ xs) c k l h = own-kept xs (c + 1) (nextReal k r) (l + 1) (h .1)
+own-kept (kept r ∷ xs) c k l h = (h .0 .counted, own-kept xs (c + 1) (nextReal k r) l (h .1))
 
 pub own-counts : (xs : List Fate) (c k : ℕ) → Sends c k xs → Every (λ f. sentCount (f .bytes) ≡ ownOf (at f)) (unspoiled c k xs)
 unfolding unspoiled Sends Every
 own-counts [] c k h = tt
 own-counts (kept r ∷ xs) c k h = own-kept (kept r ∷ xs) (ownOf c) k 0 (own-sends (kept r ∷ xs) c k h)
-own-counts (removed r ∷ xs) c k h = own-counts xs (c + 1) (next k r) (h .1)
+own-counts (removed r ∷ xs) c k h = own-counts xs (c + 1) (nextReal k r) (h .1)
 own-counts (extra x ∷ xs) c k h = own-counts xs c k h
 
 -- the first of them is of turn 0
@@ -72,7 +72,7 @@ first-turn : (xs : List Fate) (c k : ℕ) → FirstTurn (unspoiled c k xs)
 unfolding unspoiled keptOf FirstTurn
 first-turn [] c k = tt
 first-turn (kept r ∷ xs) c k = omega arith
-first-turn (removed r ∷ xs) c k = first-turn xs (c + 1) (next k r)
+first-turn (removed r ∷ xs) c k = first-turn xs (c + 1) (nextReal k r)
 first-turn (extra x ∷ xs) c k = first-turn xs c k
 
 -- each can follow the one before, and the first a clock that isn't set
@@ -102,5 +102,5 @@ pub left-parts : (xs : List Fate) (c k : ℕ) (b : Buffers) → Ready fresh b �
 unfolding unspoiled Sends fed traceOf ExtraRefused
 left-parts [] c k b h w f q = ends fresh b h
 left-parts (kept r ∷ xs) c k b h w f q = parts (kept r ∷ xs) k 0 (ownOf c) fresh b h (own-sends (kept r ∷ xs) c k w) f q
-left-parts (removed r ∷ xs) c k b h w f q = lost-one (unspoiled (c + 1) (next k r) xs) xs fresh b r (left-parts xs (c + 1) (next k r) b h (w .1) f q)
+left-parts (removed r ∷ xs) c k b h w f q = lost-one (unspoiled (c + 1) (nextReal k r) xs) xs fresh b r (left-parts xs (c + 1) (nextReal k r) b h (w .1) f q)
 left-parts (extra x ∷ xs) c k b h w f q = extra-one (unspoiled c k xs) xs fresh b x q (left-parts xs c k b h w f)

@@ -14,7 +14,7 @@ use Rattle.gathering.specs.Laying.{Rising}
 use Rattle.gathering.proofs.Those.{rising-those}
 use Rattle.gathering.proofs.Members.{In, above, those-in, neighbours-in, neighbours-rise}
 use Rattle.gathering.proofs.Totals.{total-same, total-none, total-add, total-more, total-suc, only}
-use Rattle.stream.specs.Sending.{next, Kept, isReal, reals}
+use Rattle.stream.specs.Sending.{nextReal, Kept, isReal, reals}
 use Rattle.stream.specs.Cutting.{at, hasCount, unaccepted, lostBetween}
 use Rattle.stream.proofs.Chains.{Chain, rising-counts}
 
@@ -60,11 +60,11 @@ count-is : (ks : List Kept) (c k l : ℕ) → Chain c k l ks → (x : Kept) → 
 unfolding Chain Some Rising
 count-is [] c k l h x i = absurd i
 count-is (y ∷ ks) c k l h x (inl e) =
-    let rises : Rising at (at y) (y ∷ ks) = (omega arith, rising-counts ks (at y + 1) (next (y .serial) (y .bytes)) (y .lost) (h .1)) in
+    let rises : Rising at (at y) (y ∷ ks) = (omega arith, rising-counts ks (at y + 1) (nextReal (y .serial) (y .bytes)) (y .lost) (h .1)) in
     let none : keptBelow (y ∷ ks) (at y) ≡ 0 = none-below (y ∷ ks) (at y) (at y) rises (omega arith) in
     subst (λ (z : Kept). at z + l ≡ c + keptBelow (y ∷ ks) (at z) + z .lost) e (omega (arith, h .0 .counted, none))
 count-is (y ∷ ks) c k l h x (inr i) =
-    let n = next (y .serial) (y .bytes) in
+    let n = nextReal (y .serial) (y .bytes) in
     let r = rising-counts ks (at y + 1) n (y .lost) (h .1) in
     let one = first-adds y ks (at x) r (omega (arith, above at ks (at y + 1) x r i)) in
     omega (arith, h .0 .counted, count-is ks (at y + 1) n (y .lost) (h .1) x i, one)

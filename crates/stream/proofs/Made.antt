@@ -23,7 +23,7 @@ use Rattle.record.specs.Contents.{recordOf}
 use Rattle.bursts.specs.Bursts.{snapshotSize}
 use Rattle.cells.specs.Laying.{cellsSize}
 use Rattle.record.specs.Frame.{isRealTime}
-use Rattle.major.specs.Major.{frameSamples}
+use Rattle.major.specs.Major.{majorSamples}
 use Rattle.reader.specs.Buffers.{Buffers, buffers, sized}
 use Rattle.reader.proofs.Lengths.{Sizes, is-sized}
 use Rattle.stream.specs.Sending.{sentCount, realTime, SentAt}
@@ -130,7 +130,7 @@ pub lent-lengths : Sizes lent
 unfolding lent
 lent-lengths =
     let c = length-replicate {A = ℕ} cellsSize 0 in
-    let s = length-replicate {A = ℤ} frameSamples (pos 0) in
+    let s = length-replicate {A = ℤ} majorSamples (pos 0) in
     let b = length-replicate {A = ℕ} snapshotSize 0 in
     record { cells = c; finished-cells = c; samples = s; finished-samples = s; snapshot = b; first-snapshot = b; second-snapshot = b }
 

@@ -23,7 +23,7 @@ use Rattle.gathering.proofs.Buffers.{Block, blocks}
 use Rattle.gathering.proofs.Laying.{all-fit, stays, stand}
 use Rattle.gathering.proofs.Marking.{marks-set, marks-free, marks-count, marks-below}
 use Rattle.gathering.proofs.Members.{every-in, in-every, those-in}
-use Rattle.stream.specs.Sending.{next, Kept}
+use Rattle.stream.specs.Sending.{nextReal, Kept}
 use Rattle.stream.specs.Cutting.{at}
 use Rattle.stream.specs.Bursts.{Packet, firstOf, secondOf, packetsFrom, burstPackets, isPacket, snapPackets, Together}
 use Rattle.stream.specs.Snapshots.{mark, SnapshotFilled}
@@ -38,7 +38,7 @@ unfolding Chain Every packetsFrom
 all-sized [] n c k l w = tt
 all-sized (x ∷ xs) n c k l w =
     go (carriesTwo (recordOf (x .bytes) .kind)) (carriesBurst (recordOf (x .bytes) .kind))
-    (λ m. all-sized xs m (at x + 1) (next (x .serial) (x .bytes)) (x .lost) (w .1))
+    (λ m. all-sized xs m (at x + 1) (nextReal (x .serial) (x .bytes)) (x .lost) (w .1))
   where
     these : Bool → Bool → List Packet
     these t b = cond t (firstOf n x ∷ secondOf (n + 1) x ∷ []) (cond b (firstOf n x ∷ []) [])

@@ -26,7 +26,7 @@ use Rattle.cells.proofs.Laws.{length-frame}
 use Rattle.clock.specs.Clock.{ownOf, isLater, hasTurn, dated, accepted}
 use Rattle.clock.specs.declared.Clock.{Clock}
 use Rattle.clock.proofs.Laws.{Follows, stands}
-use Rattle.major.specs.Major.{frameSamples}
+use Rattle.major.specs.Major.{majorSamples}
 use Rattle.major.specs.declared.SlotWork.{SlotWork}
 use Rattle.state.specs.Soundness.{sound, fresh}
 use Rattle.state.specs.Deciding.{stateHolds, clockHolds, turnHolds, numberOf, decidedOf, answerNumber}
@@ -43,7 +43,7 @@ use Rattle.gathering.specs.Gathering.{gather}
 use Rattle.stream.specs.Running.{Call, Trace, step, called, run, traceOf, accumulations, majors, snapshots}
 use Rattle.stream.specs.Cutting.{at}
 use Rattle.stream.specs.Bursts.{packetsOf}
-use Rattle.stream.specs.Sending.{sentCount, next, Fate, kept, removed, extra, Sends, fed, ExtraRefused, KeptAccepted, Kept, keptOf}
+use Rattle.stream.specs.Sending.{sentCount, nextReal, Fate, kept, removed, extra, Sends, fed, ExtraRefused, KeptAccepted, Kept, keptOf}
 use Rattle.stream.proofs.Runs.{answered, finished}
 use Rattle.stream.proofs.Calls.{accumulate, collect, cells-out, samples-out, refused-call, cells-call, samples-call}
 use Rattle.stream.proofs.Snapping.{eventsFrom, snap}
@@ -61,11 +61,11 @@ cells-size w p c e = go (w .lays) (w .clears)
     go true t = length-frame (frameCode p) (scienceBytes p) _
     go false t = length-cleared t 0 c ∙ e
 
-samples-size : (w : SlotWork) (p : List ℕ) (s : List ℤ) → w .slot < 16 → length s ≡ frameSamples → length (samplesAfter w p s) ≡ frameSamples
+samples-size : (w : SlotWork) (p : List ℕ) (s : List ℤ) → w .slot < 16 → length s ≡ majorSamples → length (samplesAfter w p s) ≡ majorSamples
 samples-size w p s h e = go (w .work .lays) (w .work .clears)
   where
     go : (l t : Bool)
-        → length (cond l (patch (clearedBy t (pos 0) s) (samplesSize * w .slot) (samples (magBytes p))) (clearedBy t (pos 0) s)) ≡ frameSamples
+        → length (cond l (patch (clearedBy t (pos 0) s) (samplesSize * w .slot) (samples (magBytes p))) (clearedBy t (pos 0) s)) ≡ majorSamples
     go true t =
         let n = length-cleared t (pos 0) s ∙ e in
         length-patch (clearedBy t (pos 0) s) (samplesSize * w .slot) (samples (magBytes p))
@@ -86,7 +86,7 @@ call-sized s b r z =
       finished-cells = copied-size (w .cells .copies) (b .openCells) (b .finishedCells) cellsSize (z .cells) (z .finished-cells);
       samples = samples-size (w .samples) (packetBytes r) (b .openSamples) (slot-small i) (z .samples);
       finished-samples =
-          copied-size (w .samples .work .copies) (b .openSamples) (b .finishedSamples) frameSamples (z .samples) (z .finished-samples);
+          copied-size (w .samples .work .copies) (b .openSamples) (b .finishedSamples) majorSamples (z .samples) (z .finished-samples);
       snapshot = second ∙ z .snapshot;
       first-snapshot =
           copied-size (w .one .work .copies) (b .openSnapshot) _ snapshotSize (z .snapshot)
@@ -188,17 +188,17 @@ pub parts : (xs : List Fate) (k l c : ℕ) (s : State) (b : Buffers) → Ready s
 unfolding traceOf fed keptOf Sends Follow ExtraRefused KeptAccepted
 parts [] k l c s b h w f q = ends s b h
 parts (removed r ∷ xs) k l c s b h w f q =
-    lost-one (keptOf (c + 1) (next k r) (l + 1) xs) xs s b r (parts xs (next k r) (l + 1) (c + 1) s b h (w .1) f q)
+    lost-one (keptOf (c + 1) (nextReal k r) (l + 1) xs) xs s b r (parts xs (nextReal k r) (l + 1) (c + 1) s b h (w .1) f q)
 parts (extra x ∷ xs) k l c s b h w f q = extra-one (keptOf c k l xs) xs s b x q (parts xs k l c s b h w f)
 parts (kept r ∷ xs) k l c s b h w f q =
     let p = w .0 in
     let x : Kept = record { bytes = r; count = c; serial = k; lost = l } in
     let d = stands-at s c (f .0) r (p .counted) in
     let n = accepts s b c r h d (p .passes) in
-    let ks = keptOf (c + 1) (next k r) l xs in
+    let ks = keptOf (c + 1) (nextReal k r) l xs in
     let clock = clock-after s b c r h d n in
     let g = subst⁻¹ (λ (y : Clock). Follow y ks) clock (f .1) in
-    let v = parts xs (next k r) l (c + 1) (called s b r .result .state) (called s b r .left) (moves s b r h) (w .1) g q in
+    let v = parts xs (nextReal k r) l (c + 1) (called s b r .result .state) (called s b r .left) (moves s b r h) (w .1) g q in
     let t = behind (called s b r) (fed xs) in
     record {
       accepted = (is-accepted s b r n, v .accepted);

@@ -34,7 +34,7 @@ use Rattle.reader.specs.Buffers.{Buffers}
 use Rattle.reader.specs.Steps.{input}
 use Rattle.gathering.specs.Lists.{Pairwise, sum, those}
 use Rattle.gathering.proofs.Totals.{total-none}
-use Rattle.stream.specs.Running.{Reader, Call, Trace, traceOf, called, ClosedAccumulation, accumulationOut, accumulations}
+use Rattle.stream.specs.Running.{Reader, Call, Trace, traceOf, called, ClosedAccumulation, handedAccumulation, accumulations}
 use Rattle.stream.specs.Sending.{Fate, kept, Sends, fed, ExtraRefused, KeptAccepted, Kept, keptOf, reals}
 use Rattle.stream.specs.Sending.{unspoiled, realUnspoiled, Near, WithinTurns, Stream}
 use Rattle.stream.specs.Cutting.{at, typeOf, Joined, Parted}
@@ -149,7 +149,7 @@ unfolding those first second
 real-both = ap reals left-both ∙ rw (real-five 100, real-six 101)
 
 -- what is handed out by one that stores nothing
-out-lent : (r : AccumulationReport) (c d : List ℕ) → c ≡ d → Every (λ a. a .cells ≡ d) (accumulationOut r c)
+out-lent : (r : AccumulationReport) (c d : List ℕ) → c ≡ d → Every (λ a. a .cells ≡ d) (handedAccumulation r c)
 unfolding Every
 out-lent r c d e = go (r .closed)
   where

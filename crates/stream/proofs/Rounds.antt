@@ -21,7 +21,7 @@ use Rattle.gathering.specs.Laying.{putAll}
 use Rattle.gathering.proofs.Grouping.{gathered, map-same}
 use Rattle.gathering.proofs.Laying.{put-more}
 use Rattle.gathering.proofs.Marking.{marksFrom, marks-some}
-use Rattle.stream.specs.Sending.{realTime, next, Kept, reals}
+use Rattle.stream.specs.Sending.{realTime, nextReal, Kept, reals}
 use Rattle.stream.specs.Cutting.{at, typeOf, lostBetween, Joined, Parted}
 use Rattle.stream.specs.Filling.{firstCount}
 use Rattle.stream.proofs.Calls.{cellsWith, noCells, closing, accumulating, accumulate}
@@ -95,11 +95,11 @@ module _ (g : List Kept) (p f : Kept) (o c k l : ℕ) (t : Ties p o c k l) (n : 
       go false q = omega (arith, leb-false (gap (openWith g p o) (at f)) (most (typeOf p) (typeOf f)) q, gap-is)
 
 -- after a real-time record, after an other one
-ties-real : (f : Kept) (c k l : ℕ) → Next c k l f → realTime (f .bytes) ≡ true → Ties f 0 (at f + 1) (next (f .serial) (f .bytes)) (f .lost)
+ties-real : (f : Kept) (c k l : ℕ) → Next c k l f → realTime (f .bytes) ≡ true → Ties f 0 (at f + 1) (nextReal (f .serial) (f .bytes)) (f .lost)
 ties-real f c k l n e = rw e (record { before = omega arith; lost = omega arith; account = omega arith; between = omega arith; typed = n .typed e })
 
 ties-other : (p f : Kept) (o c k l : ℕ) → Ties p o c k l → Next c k l f → realTime (f .bytes) ≡ false
-    → Ties p (o + 1) (at f + 1) (next (f .serial) (f .bytes)) (f .lost)
+    → Ties p (o + 1) (at f + 1) (nextReal (f .serial) (f .bytes)) (f .lost)
 ties-other p f o c k l t n e = rw e (record { before = omega arith; lost = omega arith; account = omega arith; between = omega arith; typed = t .typed })
 
 -- nothing is open, and the frames h ∷ t are, p the last of them, with the records xs to come

@@ -6,7 +6,7 @@ use mathlib.Core.List.{List, _∷_}
 use Prim.Native.Nat.{ℕ, zero, suc, _+_}
 use native.Mathlib.Omega.{arith}
 use Rattle.stream.specs.Running.{Trace}
-use Rattle.stream.specs.Sending.{next, Fate, removed, Sends, sentMany, fed, ExtraRefused, keptOf}
+use Rattle.stream.specs.Sending.{nextReal, Fate, removed, Sends, sentMany, fed, ExtraRefused, keptOf}
 use Rattle.stream.proofs.Made.{made, other-filler, sent-filler}
 
 -- n of them from count c on
@@ -26,7 +26,7 @@ unfolding lose sentMany
 lose-many zero c xs = sym (zero-add (sentMany xs))
 lose-many (suc n) c xs = omega (arith, lose-many n (c + 1) xs)
 
-pub next-filler : (k c : ℕ) → next k (made c 62) ≡ k
+pub next-filler : (k c : ℕ) → nextReal k (made c 62) ≡ k
 next-filler k c = rw (other-filler c)
 
 pub lose-kept : (n c k l : ℕ) (xs : List Fate) → keptOf c k l (lose c n xs) ≡ keptOf (c + n) k (l + n) xs

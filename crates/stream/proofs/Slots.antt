@@ -15,11 +15,11 @@ use Rattle.buffers.specs.Laying.{patch}
 use Rattle.record.specs.Layout.{magBytes}
 use Rattle.record.specs.Contents.{recordOf}
 use Rattle.mag.specs.Samples.{samplesSize, range, sample, samples}
-use Rattle.major.specs.Major.{slots, frameSamples, noMajor, into}
+use Rattle.major.specs.Major.{slots, majorSamples, noMajor, into}
 use Rattle.major.specs.Shape.{Shaped}
 use Rattle.major.specs.declared.Major.{Major}
 use Rattle.gathering.specs.Lists.{Linked}
-use Rattle.gathering.specs.Laying.{putAll, Rising, Free}
+use Rattle.gathering.specs.Laying.{putAll, Rising, Unused}
 use Rattle.gathering.proofs.Buffers.{Block, singles, blocks}
 use Rattle.gathering.proofs.Grouping.{all-share, rising-links}
 use Rattle.gathering.proofs.Laying.{put-part, all-fit, stays, stand}
@@ -92,8 +92,8 @@ module _ (g : List Kept) (r : Rising slot 0 g) where
   rm : Rising slot 0 ms
   rm = rising-those hasMag slot g 0 r
 
-  empty : length noSamples ≡ frameSamples
-  empty = length-replicate {A = ℤ} frameSamples (pos 0)
+  empty : length noSamples ≡ majorSamples
+  empty = length-replicate {A = ℤ} majorSamples (pos 0)
 
   -- of one with MAG
   sampled : (f : Kept) → In f g → hasMag f ≡ true → Sampled f whole
@@ -117,20 +117,20 @@ module _ (g : List Kept) (r : Rising slot 0 g) where
   }
 
   -- a slot that no record has, and one that no record with MAG has
-  no-slot : (i : ℕ) → i < slots → Free slot i g → NoSlot i whole
+  no-slot : (i : ℕ) → i < slots → Unused slot i g → NoSlot i whole
   no-slot i h n = record {
     unheld = rw (slots-are g) (marks-free slot g 0 r i n);
     word = rw (words-are g) (stays (singles slot slots 0 wordOf) g (noMajor .words) 0 i (below g) r refl h n ∙ getD-replicate {A = ℕ} 16 i 0 0 h);
   }
 
-  no-mag : (i : ℕ) → i < slots → Free slot i ms → NoMag i whole
+  no-mag : (i : ℕ) → i < slots → Unused slot i ms → NoMag i whole
   no-mag i h n = record {
     unmarked = rw (mags-are g) (marks-free slot ms 0 rm i n);
     ranged = rw (ranges-are g) (stays (singles slot slots 0 rangeOf) ms (noMajor .ranges) 0 i (below ms) rm refl h n ∙ getD-replicate {A = ℕ} 16 i 0 0 h);
     samples = λ k j.
         ap (λ (s : List ℤ). getD s (samplesSize * i + k) (pos 0)) (samples-are g)
         ∙ stays (blocks slot slots (pos 0) samplesSize samplesOf k j) ms noSamples 0 i (all-blocks ms) rm empty h n
-        ∙ getD-replicate {A = ℤ} frameSamples (samplesSize * i + k) (pos 0) (pos 0) (omega arith);
+        ∙ getD-replicate {A = ℤ} majorSamples (samplesSize * i + k) (pos 0) (pos 0) (omega arith);
   }
 
   shaped : Shaped (majorFrom noMajor g)
@@ -140,7 +140,7 @@ module _ (g : List Kept) (r : Rising slot 0 g) where
     mags = rw (mags-are g) (marks-below slot ms 0 rm slots (omega arith) (below ms));
   }
 
-  size : length (samplesFrom noSamples g) ≡ frameSamples
+  size : length (samplesFrom noSamples g) ≡ majorSamples
   size =
       ap length (samples-are g)
       ∙ all-fit (blocks slot slots (pos 0) samplesSize samplesOf 0 (omega arith)) ms noSamples 0 slots (λ b l i e. e) (omega arith)

@@ -28,7 +28,7 @@ use Rattle.reader.specs.Buffers.{Buffers, copiedBy, packetAfter, firstAfter, se
 use Rattle.reader.specs.Steps.{input}
 use Rattle.reader.proofs.Lengths.{packet-length}
 use Rattle.gathering.specs.Gathering.{gather}
-use Rattle.stream.specs.Running.{Call, Trace, step, called, ClosedSnapshot, snapshotOut, snapshots}
+use Rattle.stream.specs.Running.{Call, Trace, step, called, ClosedSnapshot, handedSnapshot, snapshots}
 use Rattle.stream.specs.Sending.{Kept}
 use Rattle.stream.specs.Cutting.{at}
 use Rattle.stream.specs.Bursts.{Packet, firstOf, secondOf, packetsOf}
@@ -36,33 +36,33 @@ use Rattle.stream.proofs.Calls.{is-taken}
 use Rattle.stream.proofs.Snapping.{Event, packet, eventsFrom, bytesWith, snapClosing, takes, item, passing, snapping, snap}
 
 -- what closes is handed out with the open bytes as they were
-pub snap-out : (s : Snapshot) (b : List ℕ) → snapshotOut (reported s) b ≡ snapClosing s b
+pub snap-out : (s : Snapshot) (b : List ℕ) → handedSnapshot (reported s) b ≡ snapClosing s b
 unfolding snapClosing
 snap-out s b = go (isOpen s)
   where
     some : SnapshotReport
     some = record { closed = true; first = s .first; held = s .held }
 
-    go : (t : Bool) → snapshotOut (cond t some unreported) b ≡ cond t (record { report = some; bytes = b } ∷ []) []
+    go : (t : Bool) → handedSnapshot (cond t some unreported) b ≡ cond t (record { report = some; bytes = b } ∷ []) []
     go true = refl
     go false = refl
 
 -- finish hands out what is open, from the first finished buffer
-pub snap-end : (s : Snapshot) (b f : List ℕ) → snapshotOut (reported s) (cond (isOpen s) b f) ++ [] ≡ snapClosing s b
+pub snap-end : (s : Snapshot) (b f : List ℕ) → handedSnapshot (reported s) (cond (isOpen s) b f) ++ [] ≡ snapClosing s b
 unfolding snapClosing
 snap-end s b f = go (isOpen s)
   where
     some : SnapshotReport
     some = record { closed = true; first = s .first; held = s .held }
 
-    go : (t : Bool) → snapshotOut (cond t some unreported) (cond t b f) ++ [] ≡ cond t (record { report = some; bytes = b } ∷ []) []
+    go : (t : Bool) → handedSnapshot (cond t some unreported) (cond t b f) ++ [] ≡ cond t (record { report = some; bytes = b } ∷ []) []
     go true = refl
     go false = refl
 
 -- a type byte with these bytes in a record at count d, is met as these events
 abbrev Met : ℕ → ℕ → List ℕ → List Event → Type 0
 Met d code bytes ev = (s : Snapshot) (b : List ℕ) (es : List Event) → length b ≡ snapshotSize
-    → snapshotOut (stepPacket s d code .report) b ++ snap d (stepPacket s d code .next) (packetAfter (stepPacket s d code .work) bytes b) es
+    → handedSnapshot (stepPacket s d code .report) b ++ snap d (stepPacket s d code .next) (packetAfter (stepPacket s d code .work) bytes b) es
     ≡ snap d s b (ev ++ es)
 
 -- a packet
@@ -74,7 +74,7 @@ met-packet q s b es n = go (isPart (q .code)) (joins s (q .code)) refl
     d = at (q .frame)
 
     go : (p j : Bool) → isPart (q .code) ≡ p
-        → snapshotOut (by s d (q .code) p j .report) b ++ snap d (by s d (q .code) p j .next) (packetAfter (by s d (q .code) p j .work) (q .bytes) b) es
+        → handedSnapshot (by s d (q .code) p j .report) b ++ snap d (by s d (q .code) p j .next) (packetAfter (by s d (q .code) p j .work) (q .bytes) b) es
         ≡ cond p (cond j (gather snapping (snapping .puts q (d, s, b)) es) (snapClosing s b ++ gather snapping (snapping .opens q) es))
         (gather snapping (d, cutIf (cuts (q .code)) s, b) es)
     go true true e = refl
@@ -98,27 +98,27 @@ module _ (d c₁ c₂ : ℕ) (b₁ b₂ : List ℕ) (ev₁ ev₂ : List Event) (
   abbrev between : List ℕ
   between = packetAfter (firstStep .work) b₁ b
 
-  both-met : (snapshotOut (firstStep .report) b ++ snapshotOut (secondStep .report) between)
+  both-met : (handedSnapshot (firstStep .report) b ++ handedSnapshot (secondStep .report) between)
       ++ snap d (secondStep .next) (packetAfter (secondStep .work) b₂ between) es
       ≡ snap d s b ((ev₁ ++ ev₂) ++ es)
   both-met =
-      append-assoc (snapshotOut (firstStep .report) b) (snapshotOut (secondStep .report) between) _
-      ∙ ap (λ (z : List ClosedSnapshot). snapshotOut (firstStep .report) b ++ z)
+      append-assoc (handedSnapshot (firstStep .report) b) (handedSnapshot (secondStep .report) between) _
+      ∙ ap (λ (z : List ClosedSnapshot). handedSnapshot (firstStep .report) b ++ z)
       (two (firstStep .next) between es (packet-length (firstStep .work) b₁ b (λ h. omega (arith, lays-room s d c₁ h, short, n)) ∙ n))
       ∙ one s b (ev₂ ++ es) n
       ∙ ap (λ (z : List Event). snap d s b z) (sym (append-assoc ev₁ ev₂ es))
 
 -- what the two finished buffers hand out is what the two packets close, in order
 outs-are : (x y : PacketStep) → PacketCloses (x .work .work) (x .report) → PacketCloses (y .work .work) (y .report) → (o a f s : List ℕ)
-    → snapshotOut (together x y .first) (cond (x .work .work .copies) o (copiedBy (y .work .work .copies) a f))
-    ++ snapshotOut (together x y .second) (copiedBy (x .work .work .copies && y .work .work .copies) a s)
-    ≡ snapshotOut (x .report) o ++ snapshotOut (y .report) a
+    → handedSnapshot (together x y .first) (cond (x .work .work .copies) o (copiedBy (y .work .work .copies) a f))
+    ++ handedSnapshot (together x y .second) (copiedBy (x .work .work .copies && y .work .work .copies) a s)
+    ≡ handedSnapshot (x .report) o ++ handedSnapshot (y .report) a
 outs-are x y p q o a f s = rw (p .copied, q .copied) (go (x .report .closed) (y .report .closed) refl refl)
   where
     go : (t u : Bool) → x .report .closed ≡ t → y .report .closed ≡ u
-        → snapshotOut (cond (x .report .closed) (x .report) (y .report)) (cond (x .report .closed) o (copiedBy (y .report .closed) a f))
-        ++ snapshotOut (cond (x .report .closed) (y .report) unreported) (copiedBy (x .report .closed && y .report .closed) a s)
-        ≡ snapshotOut (x .report) o ++ snapshotOut (y .report) a
+        → handedSnapshot (cond (x .report .closed) (x .report) (y .report)) (cond (x .report .closed) o (copiedBy (y .report .closed) a f))
+        ++ handedSnapshot (cond (x .report .closed) (y .report) unreported) (copiedBy (x .report .closed && y .report .closed) a s)
+        ≡ handedSnapshot (x .report) o ++ handedSnapshot (y .report) a
     go true true e g = rw (e, g)
     go true false e g = rw (e, g)
     go false true e g = rw (e, g)
@@ -212,8 +212,8 @@ module _ (s : State) (b : Buffers) (x : Kept) (e : numberOf (input s b (x .bytes
       es = eventsFrom (n + length (packetsOf n x)) xs
 
       go : snapshots t ≡ snap d (two .next) (packetAfter (two .work) (burstBytes p true) (packetAfter (one .work) (burstBytes p false) o)) es
-          → (snapshotOut (together one two .first) (firstAfter (one .work) (two .work) p o (b .firstSnapshot))
-          ++ snapshotOut (together one two .second) (secondAfter (one .work) (two .work) p o (b .secondSnapshot))) ++ snapshots t
+          → (handedSnapshot (together one two .first) (firstAfter (one .work) (two .work) p o (b .firstSnapshot))
+          ++ handedSnapshot (together one two .second) (secondAfter (one .work) (two .work) p o (b .secondSnapshot))) ++ snapshots t
           ≡ snap (s .clock .last) (s .snapshot) o (eventsFrom n (x ∷ xs))
       go g =
           let o₁ = packetAfter (one .work) (burstBytes p false) o in

@@ -27,7 +27,7 @@ use Rattle.gathering.proofs.Laying.{put-more}
 use Rattle.gathering.proofs.Marking.{marksFrom, marks-some}
 use Rattle.gathering.proofs.Members.{In, unique}
 use Rattle.stream.specs.Running.{ClosedSnapshot}
-use Rattle.stream.specs.Sending.{next, Kept}
+use Rattle.stream.specs.Sending.{nextReal, Kept}
 use Rattle.stream.specs.Cutting.{at, unaccepted, lostBetween}
 use Rattle.stream.specs.Bursts.{Packet, firstOf, secondOf, packetsFrom, burstPackets, snapPackets, cutBetween, Together, Apart}
 use Rattle.stream.specs.Snapshots.{mark, firstBrought}
@@ -131,7 +131,7 @@ module _ (ks : List Kept) (c₀ k₀ : ℕ) (chained : Chain c₀ k₀ 0 ks) whe
   coming (x ∷ xs) n c k l w a b = (
     record { kept = a x (inl refl); counted = w .0 .counted; losing = w .0 .losing },
     go (carriesTwo (recordOf (x .bytes) .kind)) (carriesBurst (recordOf (x .bytes) .kind)) b
-        (λ m. coming xs m (at x + 1) (next (x .serial) (x .bytes)) (x .lost) (w .1) (λ y i. a y (inr i))),
+        (λ m. coming xs m (at x + 1) (nextReal (x .serial) (x .bytes)) (x .lost) (w .1) (λ y i. a y (inr i))),
   )
     where
       these : Bool → Bool → List Packet

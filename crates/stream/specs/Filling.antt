@@ -14,7 +14,7 @@ use Rattle.record.specs.Contents.{recordOf}
 use Rattle.mag.specs.Samples.{samplesSize, range, sample}
 use Rattle.carriage.specs.Carriage.{types, scienceSize, place}
 use Rattle.cells.specs.Laying.{cellsSize, topPair, pairAt}
-use Rattle.major.specs.Major.{slots, frameSamples, slotOf}
+use Rattle.major.specs.Major.{slots, majorSamples, slotOf}
 use Rattle.major.specs.Shape.{Shaped}
 use Rattle.stream.specs.Running.{ClosedAccumulation, ClosedMajor}
 use Rattle.stream.specs.Sending.{Kept, hasMag, magged}
@@ -82,7 +82,7 @@ pub record MajorFilled (g : List Kept) (m : ClosedMajor) : Type 0 where
   pub held : ones (m .frame .slots) ≡ length g
   pub mags : ones (m .frame .«mag_slots») ≡ length (magged g)
   pub shaped : Shaped (m .frame)
-  pub size : length (m .samples) ≡ frameSamples
+  pub size : length (m .samples) ≡ majorSamples
   pub own : Every (λ f. Slotted f m) g
   pub no-slot : (i : ℕ) → i < slots → Every (λ f. slot f ≡ i → ⊥) g → NoSlot i m
   pub no-mag : (i : ℕ) → i < slots → Every (λ f. slot f ≡ i → ⊥) (magged g) → NoMag i m

@@ -78,26 +78,26 @@ pub record ClosedSnapshot : Type 0 where
   pub report : SnapshotReport
   pub bytes : List ℕ
 
-abbrev pub accumulationOut : AccumulationReport → List ℕ → List ClosedAccumulation
-accumulationOut r c = cond (r .closed) (record { report = r; cells = c } ∷ []) []
+abbrev pub handedAccumulation : AccumulationReport → List ℕ → List ClosedAccumulation
+handedAccumulation r c = cond (r .closed) (record { report = r; cells = c } ∷ []) []
 
-abbrev pub majorOut : MajorReport → List ℤ → List ClosedMajor
-majorOut r s = cond (r .closed) (record { frame = r .frame; samples = s } ∷ []) []
+abbrev pub handedMajor : MajorReport → List ℤ → List ClosedMajor
+handedMajor r s = cond (r .closed) (record { frame = r .frame; samples = s } ∷ []) []
 
-abbrev pub snapshotOut : SnapshotReport → List ℕ → List ClosedSnapshot
-snapshotOut r b = cond (r .closed) (record { report = r; bytes = b } ∷ []) []
+abbrev pub handedSnapshot : SnapshotReport → List ℕ → List ClosedSnapshot
+handedSnapshot r b = cond (r .closed) (record { report = r; bytes = b } ∷ []) []
 
 unfoldable pub accumulations : Trace → List ClosedAccumulation
-accumulations (step c t) = accumulationOut (c .result .closed .accumulation) (c .left .finishedCells) ++ accumulations t
-accumulations (finish e) = accumulationOut (e .result .closed .accumulation) (e .left .finishedCells)
+accumulations (step c t) = handedAccumulation (c .result .closed .accumulation) (c .left .finishedCells) ++ accumulations t
+accumulations (finish e) = handedAccumulation (e .result .closed .accumulation) (e .left .finishedCells)
 
 unfoldable pub majors : Trace → List ClosedMajor
-majors (step c t) = majorOut (c .result .closed .major) (c .left .finishedSamples) ++ majors t
-majors (finish e) = majorOut (e .result .closed .major) (e .left .finishedSamples)
+majors (step c t) = handedMajor (c .result .closed .major) (c .left .finishedSamples) ++ majors t
+majors (finish e) = handedMajor (e .result .closed .major) (e .left .finishedSamples)
 
 -- of two that one call closes, the one in the first finished buffer first
 abbrev pub snapshotsOut : Closed → Buffers → List ClosedSnapshot
-snapshotsOut c b = snapshotOut (c .«first_snapshot») (b .firstSnapshot) ++ snapshotOut (c .«second_snapshot») (b .secondSnapshot)
+snapshotsOut c b = handedSnapshot (c .«first_snapshot») (b .firstSnapshot) ++ handedSnapshot (c .«second_snapshot») (b .secondSnapshot)
 
 unfoldable pub snapshots : Trace → List ClosedSnapshot
 snapshots (step c t) = snapshotsOut (c .result .closed) (c .left) ++ snapshots t

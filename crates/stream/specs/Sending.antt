@@ -8,7 +8,7 @@ use Rattle.prelude.specs.Every.{Every}
 use Rattle.bits.specs.Twelve.{Bytes}
 use Rattle.record.specs.Rules.{broken}
 use Rattle.record.specs.Contents.{recordOf}
-use Rattle.clock.specs.Clock.{circle, counts, ownOf, farthest}
+use Rattle.clock.specs.Clock.{circle, fullCounts, ownOf, farthest}
 use Rattle.carriage.specs.Carriage.{types}
 use Rattle.record.specs.Frame.{isRealTime, carriesMag}
 use Rattle.state.specs.Deciding.{answerNumber}
@@ -34,8 +34,8 @@ pub record SentAt (c k : ℕ) (r : List ℕ) : Type 0 where
   pub typed : realTime r ≡ true → recordOf r .«frame_type» ≡ k % types
 
 -- the number of the next real-time record, once r was sent
-abbrev pub next : ℕ → List ℕ → ℕ
-next k r = cond (realTime r) (k + 1) k
+abbrev pub nextReal : ℕ → List ℕ → ℕ
+nextReal k r = cond (realTime r) (k + 1) k
 
 -- "Remove any, or spoil them so that each is refused": one that is spoiled is removed, with an extra in its place
 pub data Fate : Type 0 where
@@ -49,8 +49,8 @@ pub data Fate : Type 0 where
 -- what was sent, from count c and real-time number k on: the first real-time type is any
 unfoldable pub Sends : ℕ → ℕ → List Fate → Type 0
 Sends c k [] = Unit {0}
-Sends c k (kept r ∷ xs) = SentAt c k r × Sends (c + 1) (next k r) xs
-Sends c k (removed r ∷ xs) = SentAt c k r × Sends (c + 1) (next k r) xs
+Sends c k (kept r ∷ xs) = SentAt c k r × Sends (c + 1) (nextReal k r) xs
+Sends c k (removed r ∷ xs) = SentAt c k r × Sends (c + 1) (nextReal k r) xs
 Sends c k (extra x ∷ xs) = Sends c k xs
 
 -- how many were sent; they go "without wrapping" where from count c on they stay below 2^24
@@ -108,8 +108,8 @@ pub record Kept : Type 0 where
 -- those kept, in order, with full count c and real-time number k next and l lost so far
 unfoldable pub keptOf : ℕ → ℕ → ℕ → List Fate → List Kept
 keptOf c k l [] = []
-keptOf c k l (kept r ∷ xs) = record { bytes = r; count = c; serial = k; lost = l } ∷ keptOf (c + 1) (next k r) l xs
-keptOf c k l (removed r ∷ xs) = keptOf (c + 1) (next k r) (l + 1) xs
+keptOf c k l (kept r ∷ xs) = record { bytes = r; count = c; serial = k; lost = l } ∷ keptOf (c + 1) (nextReal k r) l xs
+keptOf c k l (removed r ∷ xs) = keptOf (c + 1) (nextReal k r) (l + 1) xs
 keptOf c k l (extra x ∷ xs) = keptOf c k l xs
 
 -- the real-time ones of them, and those with MAG
@@ -129,7 +129,7 @@ magged xs = those hasMag xs
 unfoldable pub unspoiled : ℕ → ℕ → List Fate → List Kept
 unspoiled c k [] = []
 unspoiled c k (kept r ∷ xs) = keptOf (ownOf c) k 0 (kept r ∷ xs)
-unspoiled c k (removed r ∷ xs) = unspoiled (c + 1) (next k r) xs
+unspoiled c k (removed r ∷ xs) = unspoiled (c + 1) (nextReal k r) xs
 unspoiled c k (extra x ∷ xs) = unspoiled c k xs
 
 -- "the real-time frames left unspoiled", and the records with MAG
@@ -145,7 +145,7 @@ Near ks = (p f : Kept) → Neighbours p f ks → f .count - (p .count + 1) < far
 
 -- "the stream ends within turn 4,095": the last record left does, and so all do, since counts rise
 abbrev pub WithinTurns : List Kept → Type 0
-WithinTurns ks = Every (λ f. f .count < counts) ks
+WithinTurns ks = Every (λ f. f .count < fullCounts) ks
 
 -- a sent stream with its fates, as 02 bounds it, buffers "of the right sizes" with any content, and a trace in which what was never
 -- sent is refused

@@ -5,6 +5,6 @@ use Rattle.mag.specs.declared.unpacking.Unpacked.{Unpacked}
 use Rattle.mag.specs.declared.unpacking.Unpacked.the-variants.{Range, NoSuchPlace}
 use Rattle.c_answers.specs.Answers.{nowhere}
 
-abbrev pub rangeNumber : Unpacked → ℕ
-rangeNumber (Range n) = n
-rangeNumber NoSuchPlace = nowhere
+abbrev pub unpackedNumber : Unpacked → ℕ
+unpackedNumber (Range n) = n
+unpackedNumber NoSuchPlace = nowhere

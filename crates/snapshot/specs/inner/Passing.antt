@@ -6,5 +6,5 @@ use lib.Dec.{eqb}
 use Rattle.snapshot.specs.declared.Snapshot.{Snapshot}
 
 -- none is open and no packet comes
-unfoldable pub isQuiet : Snapshot → ℕ → ℕ → Bool
-isQuiet s one two = eqb (s .held) 0 && (eqb one 0 && eqb two 0)
+unfoldable pub passesBy : Snapshot → ℕ → ℕ → Bool
+passesBy s one two = eqb (s .held) 0 && (eqb one 0 && eqb two 0)

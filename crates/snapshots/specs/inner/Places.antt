@@ -11,16 +11,16 @@ use Rattle.cells.specs.declared.raw.Raw.{Raw}
 use Rattle.electrons.specs.Meaning.{meaning}
 use Rattle.electrons.specs.declared.questions.Count.{Count}
 use Rattle.electrons.specs.declared.scale.Scale.the-variants.{Known}
-use Rattle.snapshots.specs.Questions.{hasAngle, angleAt}
+use Rattle.snapshots.specs.Questions.{hasAngle, angleByte}
 use Rattle.snapshots.specs.Raw.{isByte, holdsByte}
 
 -- a place, or the first number that is none
 abbrev pub anglePlace : ℕ → ℕ → ℕ → ℕ → ℕ
-anglePlace from angles e a = cond (hasAngle angles e a) (angleAt from angles e a) snapshotSize
+anglePlace from angles e a = cond (hasAngle angles e a) (angleByte from angles e a) snapshotSize
 
 -- the byte at a place, or why there is none
-abbrev pub byteOf : List ℕ → ℕ → ℕ → Raw
-byteOf s held p = rawOf (isByte s held p) (holdsByte held p) (getD s p 0)
+abbrev pub rawByte : List ℕ → ℕ → ℕ → Raw
+rawByte s held p = rawOf (isByte s held p) (holdsByte held p) (getD s p 0)
 
-abbrev pub countAt : List ℕ → ℕ → ℕ → Divided → Count
-countAt s held p d = meaning (byteOf s held p) (Known d)
+abbrev pub countedAt : List ℕ → ℕ → ℕ → Divided → Count
+countedAt s held p d = meaning (rawByte s held p) (Known d)

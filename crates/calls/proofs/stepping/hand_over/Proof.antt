@@ -3,7 +3,7 @@
 use mathlib.Core.Path.{sym, ap, _∙_}
 use Prim.Native.Nat.{ℕ}
 use Rattle.state.specs.declared.deciding.Answer.{Answer}
-use Rattle.calls.specs.Reading.{back, handedBy}
+use Rattle.calls.specs.Reading.{handedBack, handedBy}
 use Rattle.calls.specs.inner.Handing.{numbered, handedAs}
 use borrow.Author.Needs.{needs}
 use Rattle.calls.proofs.stepping.hand_over.Statement.{statement}
@@ -29,7 +29,7 @@ unfolding handedAs
 returns c =
     let k = c .before .before in
     let a = k .before .before .args in
-    ap (λ (n : ℕ). back n (a .state) (a .report)) (c .not-zero .ensures)
+    ap (λ (n : ℕ). handedBack n (a .state) (a .report)) (c .not-zero .ensures)
     ∙ sym (ap (λ (z : Answer). handedBy (numbered z) (a .x) (a .state) (a .report)) (k .answer .given .1))
 
 returns-2 : tie.Need-returns-2
@@ -37,7 +37,7 @@ unfolding handedAs
 returns-2 c =
     let k = c .before .before .before in
     let a = k .before .before .args in
-    (λ i. back 0 (c .before .state-out .ensures i) (c .report-out .ensures i))
+    (λ i. handedBack 0 (c .before .state-out .ensures i) (c .report-out .ensures i))
     ∙ sym (ap (λ (z : Answer). handedBy (numbered z) (a .x) (a .state) (a .report)) (k .answer2 .given .1))
 
 pub hand-over-spec : {M : Type 1} → statement M

@@ -2,7 +2,7 @@
 -- Assumes nothing.
 use denote.Ref.{now}
 use Rattle.buffers.proofs.Patches.{no-room, has-room}
-use Rattle.listing.specs.Refusals.{meaning}
+use Rattle.listing.specs.Refusals.{meaningText}
 use Rattle.listing.proofs.Words.{length-words}
 use Rattle.listing.proofs.Puts.{room-after, put-then, is-written, not-written}
 use native.Mathlib.Omega.{arith}
@@ -17,7 +17,7 @@ returns : tie.Need-returns
 returns c =
     let k = c .before in
     let a = k .before .before .args in
-    not-written 80 (meaning (a .rule)) (now (a .out)) (a .at) (no-room (now (a .out)) (a .at) 80 _ (k .has-room .ensures) (c .if1 .taken))
+    not-written 80 (meaningText (a .rule)) (now (a .out)) (a .at) (no-room (now (a .out)) (a .at) 80 _ (k .has-room .ensures) (c .if1 .taken))
 
 put-words-requires : tie.Need-put-words-requires
 put-words-requires c κs =
@@ -40,7 +40,7 @@ same-length : tie.Need-same-length
 same-length c = search needs
 
 returns-2 : tie.Need-returns-2
-unfolding meaning
+unfolding meaningText
 returns-2 c =
     let p = c .before .before in
     let w = p .before .before .before .before .before in

@@ -1,6 +1,6 @@
 -- `listing::refusals::put_place` meets its contract.
 -- Assumes nothing.
-use Rattle.listing.specs.Refusals.{place}
+use Rattle.listing.specs.Refusals.{recordPlace}
 use Rattle.listing.proofs.Digits.{length-decimal}
 use Rattle.listing.proofs.Puts.{put-then}
 use native.Mathlib.Omega.{arith}
@@ -36,7 +36,7 @@ same-length : tie.Need-same-length
 same-length c = search needs
 
 returns : tie.Need-returns
-unfolding place
+unfolding recordPlace
 returns c =
     let k₄ = c .before .before in
     let k₃ = k₄ .before .before .before .before in

@@ -1,26 +1,26 @@
 -- `major::steps::step` meets its contract.
 -- Assumes nothing.
 use Rattle.prelude.proofs.Conds.{held, fails}
-use Rattle.major.proofs.Parts.{room-free, is-turned, is-left, is-stayed}
+use Rattle.major.proofs.Parts.{room-free, is-renewed, is-left, is-stayed}
 use borrow.Author.Needs.{needs}
 use Rattle.major.proofs.steps.step.Statement.{statement}
 use Rattle.major.proofs.steps.step.Tie as tie
 use Rattle.major.proofs.steps.continues_at.Reads as continues-at-reads
 use Rattle.major.proofs.steps.leave.Reads as leave-reads
 use Rattle.major.proofs.steps.stay.Reads as stay-reads
-use Rattle.major.proofs.steps.turn.Reads as turn-reads
+use Rattle.major.proofs.steps.renew.Reads as renew-reads
 
 continues-at-requires : tie.Need-continues-at-requires
 continues-at-requires c κs = search needs
 
-turn-requires : tie.Need-turn-requires
-turn-requires c κs = search needs
+renew-requires : tie.Need-renew-requires
+renew-requires c κs = search needs
 
 returns : tie.Need-returns
 returns c =
     let k = c .before .before in
     let a = k .before .args in
-    is-turned (a .m) (a .d) (a .mag) (a .range) (a .word) _ (fails (k .continues-at .ensures) (c .before .if1 .taken)) (c .turn .ensures)
+    is-renewed (a .m) (a .d) (a .mag) (a .range) (a .word) _ (fails (k .continues-at .ensures) (c .before .if1 .taken)) (c .renew .ensures)
 
 slot-free-requires : tie.Need-slot-free-requires
 slot-free-requires c κs = search needs
@@ -54,7 +54,7 @@ step-spec =
     tie.close
     (tie.spec
     continues-at-requires
-    turn-requires
+    renew-requires
     returns
     slot-free-requires
     leave-requires

@@ -1,7 +1,7 @@
 -- `shapes::fields::mark_of` meets its contract.
 -- Assumes nothing.
 use mathlib.Core.Path.{sym, ap}
-use Rattle.shapes.specs.Fields.{mark}
+use Rattle.shapes.specs.Fields.{finiteMark}
 use borrow.Author.Needs.{needs}
 use Rattle.shapes.proofs.fields.mark_of.Statement.{statement}
 use Rattle.shapes.proofs.fields.mark_of.Tie as tie
@@ -13,12 +13,12 @@ enum-told-2 : tie.Need-enum-told-2
 enum-told-2 c = search needs
 
 returns : tie.Need-returns
-unfolding mark
-returns c = sym (ap mark (c .enum-told .given .1))
+unfolding finiteMark
+returns c = sym (ap finiteMark (c .enum-told .given .1))
 
 returns-2 : tie.Need-returns-2
-unfolding mark
-returns-2 c = sym (ap mark (c .enum-told2 .given .1))
+unfolding finiteMark
+returns-2 c = sym (ap finiteMark (c .enum-told2 .given .1))
 
 pub mark-of-spec : {M : Type 1} → statement M
 mark-of-spec = tie.close (tie.spec enum-told enum-told-2 returns returns-2)

@@ -11,8 +11,8 @@ use borrow.Author.Needs.{needs}
 use Rattle.snapshot.proofs.steps.step.Statement.{statement}
 use Rattle.snapshot.proofs.steps.step.Tie as tie
 
-is-quiet-requires : tie.Need-is-quiet-requires
-is-quiet-requires c κs = search needs
+passes-by-requires : tie.Need-passes-by-requires
+passes-by-requires c κs = search needs
 
 still-requires : tie.Need-still-requires
 still-requires c κs = search needs
@@ -21,7 +21,7 @@ returns : tie.Need-returns
 returns c =
     let q = c .before in
     let a = q .before .before .args in
-    c .still .ensures ∙ quiet-leaves (a .clock) (a .s) (a .d) (a .one) (a .two) (sym (q .before .is-quiet .ensures) ∙ q .if1 .taken)
+    c .still .ensures ∙ quiet-leaves (a .clock) (a .s) (a .d) (a .one) (a .two) (sym (q .before .passes-by .ensures) ∙ q .if1 .taken)
 
 still-requires-2 : tie.Need-still-requires-2
 still-requires-2 c κs = search needs
@@ -67,7 +67,7 @@ pub step-spec : {M : Type 1} → statement M
 step-spec =
     tie.close
     (tie.spec
-    is-quiet-requires
+    passes-by-requires
     still-requires
     returns
     still-requires-2

@@ -1,9 +1,9 @@
--- `major::steps::turn` meets its contract.
+-- `major::steps::renew` meets its contract.
 -- Assumes nothing.
 use Rattle.major.proofs.Parts.{free-none}
 use borrow.Author.Needs.{needs}
-use Rattle.major.proofs.steps.turn.Statement.{statement}
-use Rattle.major.proofs.steps.turn.Tie as tie
+use Rattle.major.proofs.steps.renew.Statement.{statement}
+use Rattle.major.proofs.steps.renew.Tie as tie
 use Rattle.major.proofs.steps.no_major.Reads as no-major-reads
 use Rattle.major.proofs.steps.put_slot.Reads as put-slot-reads
 use Rattle.major.proofs.steps.report.Reads as report-reads
@@ -20,5 +20,5 @@ report-requires c κs = search needs
 returns : tie.Need-returns
 returns c = rw (c .before .report .ensures, c .before .before .put-slot .ensures, c .before .before .before .no-major .ensures)
 
-pub turn-spec : {M : Type 1} → statement M
-turn-spec = tie.close (tie.spec no-major-requires put-slot-requires report-requires returns)
+pub renew-spec : {M : Type 1} → statement M
+renew-spec = tie.close (tie.spec no-major-requires put-slot-requires report-requires returns)
