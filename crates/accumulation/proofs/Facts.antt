@@ -97,7 +97,7 @@ types-rise a u d f e t s =
     let h = highest-high (a .held) last (highest-frame a f (is-open a (p .0))) in
     omega (arith, ltb-true last u (two (ltb last u) within (p .1) .0), set-below (a .held) t (last + 1) h s)
 
--- so it has a mark of its own, above all others
+-- a frame that joins has a mark of its own, above all others
 pub below-mark : (a : Accumulation) (u d : ℕ) → framesAmong a ≡ true → joins a u d ≡ true → a .held < 2 ^ u
 below-mark a u d f e =
     let q = highest-frame a f (joins-open a u d e) in
@@ -115,7 +115,7 @@ module _ (c : Clock) (a : Accumulation) (e : accumulationSound c a ≡ true) (d 
   pub is-after : After a d
   is-after z = omega (arith, others-last c a (known .others), is-above z)
 
-  -- so what is handed to the functions of this room is in place
+  -- what is handed to the functions of this room is in place
   pub in-place : (u : ℕ) → u < 64 → inPlace a u d ≡ true
   unfolding inPlace
   in-place u h = rw (lt-ltb u 64 h, lt-ltb (a .held) (2 ^ 36) (frames-36 a (known .among))) (go (eqb (a .held) 0) refl)

@@ -86,7 +86,7 @@ keeps-started u d k b =
     one : ones (2 ^ u) ≡ 1
     one = ap ones (sym (unmarked u)) ∙ ones-marked 0 u (pow-pos u) ∙ ap (λ (x : ℕ). x + 1) ones-zero
 
--- none open passes with every clock
+-- no accumulation open passes with every clock
 pub none-sound : (c : Clock) → accumulationSound c noAccumulation ≡ true
 unfolding countsBelow framesAmong framesFit othersFit noneOpen ones onesIn
 none-sound c = is-sound c noAccumulation (record {
@@ -98,7 +98,7 @@ none-sound c = is-sound c noAccumulation (record {
   start = or-true (c .any);
 })
 
--- and a record at a later count keeps it
+-- a record at a later count keeps the accumulation's part of the state list
 pub step-sound : (c : Clock) (a : Accumulation) (science : Bool) (u d : ℕ) → accumulationSound c a ≡ true → (science ≡ true → u < 36)
     → (c .any ≡ true → c .last < d) → d < fullCounts → accumulationSound (accepted d) (stepAccumulation a science u d .next) ≡ true
 unfolding stepAccumulation

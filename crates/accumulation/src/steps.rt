@@ -13,7 +13,7 @@ use crate::joining::joins_at;
 use buffers::Work;
 use buffers::no_work;
 
-// None: all 0.
+// No accumulation: all 0.
 pub fn no_accumulation() -> Accumulation
     ensures { λ a. ⌜ a ≡ noAccumulation ⌝ }
 {
@@ -26,7 +26,7 @@ pub fn no_accumulation() -> Accumulation
     }
 }
 
-// The report where none closes.
+// The report where no accumulation closes.
 pub fn unreported() -> AccumulationReport
     ensures { λ r. ⌜ r ≡ unreported ⌝ }
 {
@@ -37,7 +37,7 @@ pub fn unreported() -> AccumulationReport
     }
 }
 
-// What its closing reports: nothing where none is open.
+// What closing an accumulation reports: nothing where none is open.
 pub fn report(a: Accumulation) -> AccumulationReport
     ensures { λ r. ⌜ r ≡ reported a ⌝ }
 {
@@ -51,7 +51,7 @@ pub fn report(a: Accumulation) -> AccumulationReport
     }
 }
 
-// It stays as it is.
+// The accumulation stays as it is.
 fn leave(a: Accumulation) -> AccumulationStep
     ensures { λ x. ⌜ x ≡ leaves a ⌝ }
 {
@@ -63,7 +63,7 @@ fn leave(a: Accumulation) -> AccumulationStep
     }
 }
 
-// One more other frame since its last; none is counted while none is open.
+// One more other frame since the accumulation's last; none is counted while none is open.
 fn pass(a: Accumulation, d: u64) -> AccumulationStep
     requires { ⌜ After a d ⌝ }
     ensures { λ x. ⌜ x ≡ passes a ⌝ }
@@ -99,7 +99,7 @@ fn extend(a: Accumulation, u: u8, d: u64) -> AccumulationStep
     }
 }
 
-// It closes, and a new one opens with that frame alone.
+// The open accumulation closes, and a new one opens with that frame alone.
 fn renew(a: Accumulation, u: u8, d: u64) -> AccumulationStep
     requires { ⌜ u < 64 ⌝ }
     ensures { λ x. ⌜ x ≡ renews a u d ⌝ }

@@ -72,7 +72,7 @@ pub below-88 : (a p : ℕ) → a < 16 → p < 8 → angleAt a p < 88
 unfolding phase
 below-88 a p h k = ltb→lt _ _ (both-right (eqb (rowOf a .0 + p / rowOf a .1) (angleAt a p)) _ (at-phase a p h k))
 
--- and each is met
+-- each angle is met at some anode and phase
 pub record Met (b : ℕ) : Type 0 where
   pub anode : ℕ
   pub phase : ℕ

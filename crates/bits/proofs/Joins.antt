@@ -8,7 +8,7 @@ use lib.Arith.{digits-lt, digits-div, digits-mod}
 use lib.Pow.{pow-add}
 use Rattle.bits.specs.Numbers.{Order, least, most, join}
 
--- it is a number of m + n bits
+-- numbers of m and n bits joined are a number of m + n bits
 pub join-below : (o : Order) (m n x y : ℕ) → x < 2 ^ m → y < 2 ^ n → join o m x n y < 2 ^ (m + n)
 unfolding join
 join-below least m n x y h k = rw (pow-add 2 m n, mul-comm (2 ^ m) (2 ^ n)) (digits-lt k h)
@@ -20,7 +20,7 @@ digits c q r q′ r′ h h′ e = (
   sym (digits-mod q h) ∙ ap (λ (n : ℕ). n % c) e ∙ digits-mod q′ h′,
 )
 
--- it determines both
+-- the joined number determines both
 pub join-same : (o : Order) (m n x y x′ y′ : ℕ) → x < 2 ^ m → y < 2 ^ n → x′ < 2 ^ m → y′ < 2 ^ n
     → join o m x n y ≡ join o m x′ n y′ → (x ≡ x′) × (y ≡ y′)
 unfolding join

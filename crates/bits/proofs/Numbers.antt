@@ -32,7 +32,7 @@ unfolding number
 below o b i zero = omega arith
 below o b i (suc n) = rw (← add-one n) (join-below o n 1 (number o b i n) (bit o b (i + n)) (below o b i n) (bit-below o b (i + n)))
 
--- it depends on its own bits only, wherever they stand
+-- a number depends on its own bits only, wherever they stand
 pub own : (o : Order) (b b′ : List ℕ) (i i′ n : ℕ) → ((j : ℕ) → j < n → bit o b (i + j) ≡ bit o b′ (i′ + j)) → number o b i n ≡ number o b′ i′ n
 unfolding number
 own o b b′ i i′ zero h = refl
@@ -76,7 +76,7 @@ bit-in o b h j k =
 abbrev four : Order → ℕ → ℕ → ℕ
 four o x s = join o 3 (join o 2 (join o 1 (join o 0 0 1 (bitOf o x s)) 1 (bitOf o x (s + 1))) 1 (bitOf o x (s + 2))) 1 (bitOf o x (s + 3))
 
--- both halves of every byte, computed
+-- front and back of a byte are its two halves; of every byte, computed
 abbrev right : Order → ℕ → Bool
 right o x = both (eqb (four o x 0) (front o x)) (eqb (four o x 4) (back o x))
 

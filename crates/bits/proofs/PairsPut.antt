@@ -31,7 +31,7 @@ module _ (o : Order) (x y : ℕ) where
   unfolding pairBytes
   pair-bytes = are-bytes o 3 (join o 12 x 12 y)
 
-  -- both numbers of the bytes
+  -- the two numbers of a pair read back from its bytes
   pub pair-back : x < 4096 → y < 4096 → (twelve o (pairBytes o x y) 0 ≡ x) × (twelve o (pairBytes o x y) 1 ≡ y)
   unfolding pairBytes
   pair-back h k =

@@ -100,7 +100,7 @@ from-parts o b k w s bytes p = go (leb (12 * k + 12) (8 * length b)) (eqb (k % 2
     go false true t e = rw (p .whole-is, p .shared-is, t, e) (nothing-even o)
     go false false t e = rw (p .whole-is, p .shared-is, t, e) (nothing-odd o)
 
--- the same at each order, as the code computes it
+-- the number from its two bytes, as the code computes it at each order
 module _ (b : List ℕ) (k w s : ℕ) (bytes : Bytes b) (p : PartsOf b k w s) where
   pub at-least : cond (eqb (k % 2) 0) (s % 16 * 256 + w) (w * 16 + s / 16) ≡ twelveIn least b k
   unfolding join front back

@@ -32,7 +32,7 @@ unfoldable pub number : Order → List ℕ → ℕ → ℕ → ℕ
 number o b i zero = 0
 number o b i (suc n) = join o n (number o b i n) 1 (bit o b (i + n))
 
--- the same, or 0 where it doesn't lie wholly in the bytes
+-- the n-bit number from bit i on, or 0 where it doesn't lie wholly in the bytes
 abbrev pub numberIn : Order → List ℕ → ℕ → ℕ → ℕ
 numberIn o b i n = cond (leb (i + n) (8 * length b)) (number o b i n) 0
 
@@ -45,6 +45,6 @@ wordIn b at n = numberIn most b (8 * at) (8 * n)
 abbrev pub twelve : Order → List ℕ → ℕ → ℕ
 twelve o b k = number o b (12 * k) 12
 
--- the same, or 0 where it doesn't lie wholly in the bytes
+-- the 12-bit number at place k, or 0 where it doesn't lie wholly in the bytes
 abbrev pub twelveIn : Order → List ℕ → ℕ → ℕ
 twelveIn o b k = numberIn o b (12 * k) 12

@@ -1,4 +1,4 @@
-// The same for buffers of signed 16-bit numbers.
+// Buffers of signed 16-bit numbers, copied and cleared.
 ghost use mathlib.Core.Path.{_≡_};
 ghost use lib.IntN.{pos};
 ghost use Rattle.buffers.specs.Copying.{copied};

@@ -98,7 +98,7 @@ runOf (pitch a z) = bytes a z
 runOf (angles n) = record { at = 0; size = n }
 runOf (table n) = record { at = 0; size = n }
 
--- its bytes in the snapshot; that they are bytes of the part
+-- an item's bytes in the snapshot; that they are bytes of its part
 abbrev pub itemRun : Item → Run
 itemRun i = record { at = partOf i .at + runOf i .at; size = runOf i .size }
 

@@ -10,6 +10,6 @@ use Rattle.c_answers.specs.Answers.{ValueGiven}
 abbrev pub ByteGiven : List ℕ → ℕ → ℕ → ℕ → ℕ → ℕ → Type 0
 ByteGiven s held p = ValueGiven (isByte s held p) (holdsByte held p) (getD s p 0)
 
--- a byte of the magnetic samples, likewise
+-- a byte of the magnetic samples, or the number lent as found
 abbrev pub MagAngleGiven : List ℕ → ℕ → ℕ → ℕ → ℕ → ℕ → Type 0
 MagAngleGiven s held k = ValueGiven (isMagAngle s held k) (holdsByte held (magAngleByte k)) (getD s (magAngleByte k) 0)

@@ -20,7 +20,7 @@ WordGiven c s = ValueGiven (ltb s slots) (slotHeld (majorIn c) s) (getD (c .word
 abbrev pub SampleGiven : CMajor → List ℤ → ℕ → ℕ → ℤ → ℕ → ℤ → Type 0
 SampleGiven c samples s k = ValueGiven (hasStored samples s k) (magHeld (majorIn c) s) (stored samples s k)
 
--- and a field that is given is exact
+-- a field where it has a place and is held; one that is given is exact
 pub record NominalGiven (c : CMajor) (samples : List ℤ) (s k : ℕ) (old : Float) (n : ℕ) (new : Float) : Type 0 where
   pub given : ValueGiven (hasNominal (majorIn c) samples s k) (magHeld (majorIn c) s) (fieldAt (majorIn c) samples s k) old n new
   pub exact : n ≡ 0 → FieldIs (stored samples s k) (getD (c .ranges) s 0) new

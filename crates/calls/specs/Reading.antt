@@ -51,7 +51,8 @@ pub record StepGiven (s : CState) (p : CReport) (b : Buffers) (r : List ℕ) (y 
   pub result : y ≡ cond (isState s) (handed (decidedOf (input (stateIn s) b r) .stepped) s p) (handedBack 1 s p)
   pub left : b′ ≡ cond (isState s) (stepped (stateIn s) b r) b
 
--- finish likewise
+-- finish: rule 1 for what is no state; else what the reader ends with, handed over. The buffers are as the reader leaves them, and as found
+-- for what is no state
 pub record FinishGiven (s : CState) (c : CClosed) (b : Buffers) (y : CFinished) (b′ : Buffers) : Type 0 where
   pub number : y .answer ≡ cond (isState s) (endNumber (stateIn s) (sized b)) 1
   pub result : y ≡ cond (isState s) (handedClosed (endedOf (stateIn s) (sized b) .finished) s c) (backClosed 1 s c)

@@ -23,7 +23,7 @@ pub struct CStepped {
     pub report: CReport,
 }
 
-// The same of finish.
+// Finish's answer, the state after it, and what it closed.
 pub struct CFinished {
     pub answer: u8,
     pub state: CState,

@@ -82,7 +82,7 @@ module _ (c : Clock) (n : ℕ) (a : c .any ≡ true) where
       go true t = sym (lt-ltb (c .last + ahead c n) fullCounts (omega (arith, ltb-true (turnAt c n) turns t, ahead-is l)))
       go false t = sym (le-ltb (c .last + ahead c n) fullCounts (omega (arith, ltb-false (turnAt c n) turns t, ahead-is l)))
 
-  -- where it arrives, by how far it lies ahead
+  -- where a record arrives, by how far its count lies ahead
   pub comes-again : ahead c n ≡ 0 → arrivalAt c n ≡ NotLater
   unfolding arrivalAt
   comes-again e = rw (later-is, lt-leb 1 (ahead c n) (omega arith))
@@ -103,7 +103,7 @@ module _ (c : Clock) (n : ℕ) (a : c .any ≡ true) where
     unfolding arrivalAt
     comes-at h = rw (is-later, turn-fits is-later, lt-ltb (c .last + ahead c n) fullCounts h, ahead-is is-later)
 
--- and before that, in turn 0
+-- before anything was accepted, a record stands in turn 0
 pub comes-first : (c : Clock) (n : ℕ) → c .any ≡ false → arrivalAt c n ≡ At (ownOf n)
 unfolding arrivalAt later turnFits turnAt countOf
 comes-first c n a = rw (a, zero-mul circle, zero-add (ownOf n))
@@ -199,11 +199,11 @@ has-begun c n e h = go (c .any) refl e
     go true t _ = t
     go false t e = absurd (false≢true (sym (ne-eqb n 0 h) ∙ e))
 
--- and where nothing was accepted it is 0
+-- a number of which `begun` holds is 0 where nothing was accepted
 pub not-begun : (c : Clock) (n : ℕ) → begun c n ≡ true → c .any ≡ false → n ≡ 0
 not-begun c n e a = eqb-true n 0 (second (c .any) (eqb n 0) a e)
 
--- such a clock is the fresh one
+-- a clock that has accepted nothing is the fresh one
 made : (any : Bool) (last : ℕ) → any ≡ false → last ≡ 0 → _≡_ {A = Clock} (record { any = any; last = last }) unset
 made any last p q = rw (p, q)
 

@@ -17,7 +17,7 @@ circle = 16777216
 abbrev pub turns : ℕ
 turns = 4096
 
--- so a full count, "Turn x 2^24 + count", is "below 2^36"
+-- a full count, "Turn x 2^24 + count", is "below 2^36"
 abbrev pub fullCounts : ℕ
 fullCounts = turns * circle
 
@@ -55,7 +55,7 @@ countOf c n = turnAt c n * circle + ownOf n
 unfoldable pub arrivalAt : Clock → ℕ → Arrival
 arrivalAt c n = cond (later c n) (cond (turnFits c n) (At (countOf c n)) PastTurns) NotLater
 
--- the same of a record's fields
+-- of a record, by the count in its fields: whether it is later, whether its turn fits, and its full count
 unfoldable pub isLater : Clock → Record → Bool
 isLater c f = later c (f .count)
 

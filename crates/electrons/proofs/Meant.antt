@@ -35,7 +35,7 @@ meant true true false false code d = record { is = refl; says = refl; range = re
 meant true false n h code d = record { is = refl; says = refl; range = refl }
 meant false y n h code d = record { is = refl; says = refl; range = refl }
 
--- and from one that there isn't
+-- the answer where there is no such byte
 pub nowhere : (x y k : Bool) (r : Range) (w : Raw) (s : Scale)
     → CountIs (record { place = x && false; held = y; known = k; range = r }) (meaning (cond (x && false) w raw.NoSuchPlace) s)
 unfolding countSaid countsGiven
@@ -52,7 +52,7 @@ module _ (a : Bool) (h : ℕ → Bool) (f : ℕ → ℕ) (n p : ℕ) (d : Divide
   asked-is true i = rw (lt-ltb p n (i refl)) (meant a (h p) true true (f p) d)
   asked-is false i = rw (le-ltb n n (omega arith)) (nowhere a (h p) true (rangeOf (f p) d) _ (Known d))
 
-  -- the same of the answers that the callees give
+  -- a question's answer, from those that the callees give
   pub asked-told : (t : Bool) → (t ≡ true → p < n) → (q : ℕ) (w : Raw) (x : Count) → q ≡ cond t p n → w ≡ at q → x ≡ meaning w (Known d)
       → CountIs (countAsked (a && t) (h p) (f p) d) x
   asked-told t i q w x eq ew ex = subst⁻¹ (λ (y : Count). CountIs (countAsked (a && t) (h p) (f p) d) y) (ex ∙ rw (ew, eq)) (asked-is t i)

@@ -66,7 +66,7 @@ module _ (c : List ℕ) (held : ℕ) where
           let p = sampleCell b s a in
           nowhere (askable c held) (holdsCell held p) (scaleKnown held b) (rangeOf (getD c p 0) (dividedBy c b)) _ (scaleOf c held b)
 
-  -- the same of the answers that the callees give
+  -- the questions' answers, from those that the callees give
   pub sample-told : (b s a : ℕ) (p : ℕ) (w : Raw) (k : Scale) (x : Count) → p ≡ samplePlace b s a → w ≡ cellOf c held p → k ≡ scaleOf c held b
       → x ≡ meaning w k → CountIs (sampleAsked c held b s a) x
   sample-told b s a p w k x ep ew ek ex = subst⁻¹ (λ (y : Count). CountIs (sampleAsked c held b s a) y) (ex ∙ rw (ew, ek, ep)) (sample-is b s a)

@@ -47,7 +47,7 @@ module _ (bytes : List ℕ) (from to : ℕ) where
   none-came : inOrder bytes from to ≡ false → RestIs bytes from to bytes 0
   none-came e = record { content = rw e; number = rw e }
 
-  -- there are no such places, or all came
+  -- nothing comes where the places lie past the end
   pub no-end : length bytes < to → RestIs bytes from to bytes 0
   no-end h = none-came (rw (lt-leb to (length bytes) h))
 

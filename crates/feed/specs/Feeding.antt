@@ -66,7 +66,7 @@ abbrev pub toldIn : ℕ → List ℕ → Desk → List Fed
 toldIn zero bytes d = []
 toldIn (suc n) bytes d = cond (quiet (fedOne bytes d .fed)) (toldIn n bytes (fedOne bytes d)) (fedOne bytes d .fed ∷ toldIn n bytes (fedOne bytes d))
 
--- and the whole records from the desk's place on
+-- all that the whole records from the desk's place on have to tell, in order
 unfoldable pub toldAll : List ℕ → Desk → List Fed
 toldAll bytes d = toldIn (wholeFrom bytes (d .fed .at)) bytes d
 

@@ -19,7 +19,7 @@ pub struct Fed {
     pub closed: Closed,
 }
 
-// None taken yet.
+// No record taken yet.
 fn begin(state: State, at: usize) -> Fed
     ensures { λ f. ⌜ f ≡ nothingFed state at ⌝ }
 {

@@ -25,7 +25,7 @@ ofBoth f none b = none
 abbrev pub pair : {A B : Type 0} → A → B → A × B
 pair a b = (a, b)
 
--- the one part, and the other after it
+-- a part, and another after it
 abbrev pub _then_ : {A B : Type 0} → Part A → Part B → Part (A × B)
 p then q = record {
   size = p .size + q .size;

@@ -43,7 +43,7 @@ module _ {I B C : Type 0} {key : I → ℕ} {put : I → B → B} {look : B → 
   all-fit (x ∷ xs) b low n wider l u g r f =
       all-fit xs (put x b) (key x + 1) n wider (omega (arith, u .0)) (u .1) (g .1) (r .1) (t .fits x b low (g .0) (r .0) f)
 
-  -- a key that none has
+  -- a key that no item has keeps what stood there
   pub stays : (xs : List I) (b : B) (low u : ℕ) → Every Good xs → Rising key low xs → Fit low b → Key u → Unused key u xs
       → look (putAll put b xs) u ≡ look b u
   unfolding putAll Every Rising
@@ -52,7 +52,7 @@ module _ {I B C : Type 0} {key : I → ℕ} {put : I → B → B} {look : B → 
       stays xs (put x b) (key x + 1) u (g .1) (r .1) (t .fits x b low (g .0) (r .0) f) k (n .1)
       ∙ t .other x b low u (g .0) (r .0) f k (n .0)
 
-  -- each of them
+  -- each item that is put stands in its key's place
   pub stand : (xs : List I) (b : B) (low : ℕ) → Every Good xs → Rising key low xs → Fit low b
       → (x : I) → Some (λ y. y ≡ x) xs → look (putAll put b xs) (key x) ≡ value x
   unfolding putAll Every Rising Some

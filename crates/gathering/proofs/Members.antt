@@ -32,7 +32,7 @@ module _ {I : Type 0} where
   in-every P [] h = tt
   in-every P (x ∷ xs) h = (h x (inl refl), in-every P xs (λ f i. h f (inr i)))
 
-  -- one that has it is an element that has it
+  -- an element that has a property makes it one that some element has
   pub some-in : (P : I → Type 0) (xs : List I) (f : I) → In f xs → P f → Some P xs
   unfolding Some
   some-in P [] f i p = absurd i
@@ -124,7 +124,7 @@ module _ {I : Type 0} where
   pub among-those : (t : I → Bool) (rs g : List I) → Among rs g → Among (those t rs) (those t g)
   among-those t rs g a x i = let q = those-in t g x i in in-those t rs x (a x (q .0)) (q .1)
 
-  -- all of two lists, one behind the other, and so of each
+  -- where two lists, one behind the other, are among rs, so is each
   among-front : (rs g h : List I) → Among rs (g ++ h) → Among rs g
   among-front rs g h a x i = a x (in-front g h x i)
 

@@ -26,7 +26,7 @@ all-tied R S P ((x ∷ xs) ∷ gs) (o ∷ os) c h = ((h .0, c .0), all-tied R S 
 
 -- marks of the keys of the items in g
 module _ {I : Type 0} (key : I → ℕ) (g : List I) (set : ℕ → Bool) (u : ℕ) where
-  -- one that is set is an item's, and so one of all items rs
+  -- a mark that is set is an item's, and so that of one of all items rs
   pub set-by : (Unused key u g → set u ≡ false) → set u ≡ true → (C : Type 0) → ((y : I) → In y g → key y ≡ u → C) → C
   set-by free e C so = one-has key u g C (λ n. true≢false (sym e ∙ free n)) so
 
@@ -34,7 +34,7 @@ module _ {I : Type 0} (key : I → ℕ) (g : List I) (set : ℕ → Bool) (u : �
       → (Q : I → Type 0) → ((y : I) → In y g → key y ≡ u → Q y) → Some Q rs
   set-from rs w free e Q so = set-by free e (Some Q rs) (λ y j z. some-in Q rs y (w y j) (so y j z))
 
-  -- of one that isn't set there is no item
+  -- of a mark that isn't set there is no item
   pub unset-free : ((y : I) → In y g → set (key y) ≡ true) → set u ≡ false → Unused key u g
   unset-free held e = in-every (λ y. key y ≡ u → ⊥) g (λ y j z. true≢false (sym (held y j) ∙ ap set z ∙ e))
 

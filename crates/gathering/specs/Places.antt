@@ -16,12 +16,12 @@ pub record Placed (O : Type 0) : Type 0 where
   pub before : ℕ
   pub thing : O
 
--- all of them, `items` telling how many are in one, with n of them and m items before
+-- all that is handed out, `items` telling how many items are in one, with n of them and m items before
 unfoldable pub placed : {O : Type 0} → (O → ℕ) → ℕ → ℕ → List O → List (Placed O)
 placed items n m [] = []
 placed items n m (o ∷ os) = record { place = n; before = m; thing = o } ∷ placed items (n + 1) (m + items o) os
 
--- item number i is in it; and the next one too
+-- item number i is in what was handed out; and the next one too
 abbrev pub HasItem : {O : Type 0} → (O → ℕ) → ℕ → Placed O → Type 0
 HasItem items i e = (e .before ≤ i) × (i < e .before + items (e .thing))
 

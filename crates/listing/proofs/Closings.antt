@@ -36,7 +36,7 @@ length-line word first frames cells h =
     let c = length-decimal cells in
     simp length-append (omega (arith, h, a, b, c))
 
--- where it closed, and where not
+-- the line of an accumulation or a snapshot, where one closed and where none did, fits a line's room
 length-gathered : (word : List ℕ) (closed : Bool) (first frames cells : ℕ) → length word ≤ wordSize
     → length (cond closed (lineOf word first frames cells) []) ≤ lineSize
 length-gathered word true first frames cells h = length-line word first frames cells h

@@ -22,7 +22,7 @@ use Rattle.listing.proofs.Digits.{length-decimal}
 abbrev pub rows : ℕ
 rows = 15
 
--- all of them, one after another, how many bytes they are, and where those of each number end
+-- all words, one after another, how many bytes they are, and where those of each number end
 abbrev pub joined : List String → List ℕ
 joined [] = []
 joined (w ∷ ws) = ascii w ++ joined ws

@@ -75,7 +75,7 @@ pub fn put_meaning(rule: u8, out: &mut [u8], at: usize) -> usize
     put(&[0], out, after_words)
 }
 
-// Which record it is.
+// Which record is refused, and where it begins.
 fn put_place(number: u64, offset: u64, out: &mut [u8], at: usize) -> usize
     requires { ⌜ at + placeSize ≤ length (now out) ⌝ }
     ensures { λ r. ⌜ Put (now (out .entry)) at (recordPlace number offset) (now (out .exit)) r ⌝ }

@@ -39,7 +39,7 @@ pub is-sound : (c : Clock) (m : Major) → Slots c m → majorSound c m ≡ true
 unfolding majorSound
 is-sound c m f = rw (f .slots, f .current, f .empty) (f .start)
 
--- its number and highest slot
+-- number and highest slot of an open major frame
 pub current-slot : (c : Clock) (m : Major) → majorNow c m ≡ true → (m .slots ≡ 0 → ⊥)
     → (m .number ≡ c .last / 16) × (highest (m .slots) (slotOf (c .last)) ≡ true)
 unfolding majorNow

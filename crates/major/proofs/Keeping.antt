@@ -100,13 +100,13 @@ module _ (m : Major) (d : ℕ) (t : Room m (slotOf d)) (g w : ℕ) (hg : g ≤ 7
   shaped-into true = record { ranges = simp length-set (t .shaped .ranges); words = simp length-set (t .shaped .words); mags = mags-small true }
   shaped-into false = record { ranges = t .shaped .ranges; words = simp length-set (t .shaped .words); mags = mags-small false }
 
--- none open passes with every clock
+-- no major frame open passes with every clock
 pub none-sound : (c : Clock) → majorSound c noMajor ≡ true
 unfolding slotsHold majorNow noSlot
 none-sound c =
     is-sound c noMajor (record { slots = upto-all (slotHolds noMajor) 16 none-well; current = refl; empty = refl; start = or-true (c .any) })
 
--- and a record at a later count keeps it, and the shape
+-- a record at a later count keeps the major frame's part of the state list, and the shape
 module _ (c : Clock) (m : Major) (d : ℕ) (mag : Bool) (g w : ℕ)
     (e : majorSound c m ≡ true) (z : Shaped m) (above : c .any ≡ true → c .last < d) (hg : g ≤ 7) where
   abbrev held-in : Bool → Major

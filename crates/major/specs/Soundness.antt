@@ -26,7 +26,7 @@ rangeKept mags range i = bitSet mags i || eqb range 0
 abbrev pub wordKept : ℕ → ℕ → ℕ → Bool
 wordKept slots word i = bitSet slots i || eqb word 0
 
--- these four of slot i, with its range and its word
+-- the four clauses about slot i, with its range and its word
 unfoldable pub slotTest : ℕ → ℕ → ℕ → ℕ → ℕ → Bool
 slotTest slots mags range word i = magAmong slots mags i && (rangeFits range && (rangeKept mags range i && wordKept slots word i))
 

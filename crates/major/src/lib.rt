@@ -16,7 +16,7 @@ pub const SLOTS: usize = 16;
 
 pub const MAJOR_SAMPLES: usize = SLOTS * mag::FRAME_SAMPLES;
 
-// Its number, subcom words and ranges by slot, the slots held and those held with MAG (bit s for slot s). It is open when it holds a
+// A major frame: its number, subcom words and ranges by slot, the slots held and those held with MAG (bit s for slot s). It is open when it holds a
 // slot. In this order the words and ranges begin at multiples of 16 bytes of the state, and are copied and tested in whole ones.
 pub struct Major {
     pub number: u64,

@@ -12,7 +12,7 @@ use crate::SlotWork;
 use buffers::Work;
 use buffers::no_work;
 
-// None: all 0.
+// No major frame: all 0.
 pub fn no_major() -> Major
     ensures { λ m. ⌜ m ≡ noMajor ⌝ }
 {
@@ -25,7 +25,7 @@ pub fn no_major() -> Major
     }
 }
 
-// The report where none closes.
+// The report where no major frame closes.
 pub fn unreported() -> MajorReport
     ensures { λ r. ⌜ r ≡ majorUnreported ⌝ }
 {
@@ -35,7 +35,7 @@ pub fn unreported() -> MajorReport
     }
 }
 
-// What its closing reports: nothing where none is open.
+// What closing a major frame reports: nothing where none is open.
 pub fn report(m: Major) -> MajorReport
     ensures { λ r. ⌜ r ≡ majorReported m ⌝ }
 {
@@ -97,7 +97,7 @@ fn put_slot(m: Major, d: u64, mag: bool, range: u8, word: u16) -> Major
     n
 }
 
-// It stays as it is.
+// The major frame stays as it is.
 fn leave(m: Major) -> MajorStep
     ensures { λ x. ⌜ x ≡ leaves m ⌝ }
 {
@@ -108,7 +108,7 @@ fn leave(m: Major) -> MajorStep
     }
 }
 
-// A further slot.
+// A further slot of the open major frame.
 fn stay(m: Major, d: u64, mag: bool, range: u8, word: u16) -> MajorStep
     requires { ⌜ Free m d ⌝ }
     ensures { λ x. ⌜ x ≡ stays m d mag range word ⌝ }
@@ -127,7 +127,7 @@ fn stay(m: Major, d: u64, mag: bool, range: u8, word: u16) -> MajorStep
     }
 }
 
-// It closes, and a new one opens with that slot alone.
+// The open major frame closes, and a new one opens with that slot alone.
 fn renew(m: Major, d: u64, mag: bool, range: u8, word: u16) -> MajorStep
     ensures { λ x. ⌜ x ≡ majorRenews m d mag range word ⌝ }
 {

@@ -45,7 +45,7 @@ module _ {ℓ} {A : Type ℓ} (f : ℕ → A) where
   pub build-all : (n : ℕ) (d : List A) → n ≡ length d → build f n ++ drop n d ≡ build f n
   build-all n d e = rw (e, drop-length d) (append-nil (build f (length d)))
 
-  -- it depends on the function below n only
+  -- what is built depends on the function below n only
   pub build-same : (g : ℕ → A) (n : ℕ) → ((k : ℕ) → k < n → f k ≡ g k) → build f n ≡ build g n
   unfolding build
   build-same g zero h = refl

@@ -24,7 +24,7 @@ highest-high n k e =
     let below = div-lt-iff-lt-mul {x = n} {y = 2} (pow-pos k) .0 (omega arith) in
     rw (add-one k) (omega (arith, pow-suc 2 k))
 
--- it is set
+-- the highest mark is set
 pub highest-set : (n k : ℕ) → highest n k ≡ true → bitSet n k ≡ true
 unfolding highest
 highest-set n k e = rw (eqb-true (n / 2 ^ k) 1 e)
@@ -64,7 +64,7 @@ none-above n t held h l = let e : held / 2 ^ t ≡ 0 = div-eq-of-lt (lt-of-lt-of
 pub bits-above : (n i : ℕ) → n < 2 ^ i → bitSet n i ≡ false
 bits-above n i h = rw (div-eq-of-lt h)
 
--- so a mark that is set stands below
+-- a mark that is set stands below u
 pub set-below : (n i u : ℕ) → n < 2 ^ u → bitSet n i ≡ true → i < u
 set-below n i u h s = go (ltb i u) refl
   where
@@ -72,7 +72,7 @@ set-below n i u h s = go (ltb i u) refl
     go true t = ltb-true i u t
     go false t = absurd (true≢false (sym s ∙ bits-above n i (lt-of-lt-of-le h (pow-mono (ltb-false i u t)))))
 
--- the other marks stay
+-- a new mark leaves the others as they are
 pub marked-other : (n u i : ℕ) → n < 2 ^ u → (i ≡ u → ⊥) → bitSet (marked n u) i ≡ bitSet n i
 unfolding marked
 marked-other n u i h d = go (ltb i u) refl

@@ -50,7 +50,7 @@ somewhere-at f (suc n) k h e = go (decLt k n) (somewhere-at f n k)
     go (yes l) more = rw (more l e) (or-true (f n))
     go (no l) more = let p : k ≡ n = omega arith in rw (subst (λ (m : ℕ). f m ≡ true) p e)
 
--- and one that passes at none passes nowhere
+-- a test that passes at none passes nowhere
 pub nowhere : (f : ℕ → Bool) (n : ℕ) → ((k : ℕ) → k < n → f k ≡ false) → somewhere f n ≡ false
 unfolding somewhere
 nowhere f zero h = refl

@@ -36,7 +36,7 @@ use Rattle.reader.specs.Steps.{input, stepped}
 only : (t u p : ℕ) → t < types → u < types → carriesCell t p ≡ true → carriesCell u p ≡ true → t ≡ u
 only t u p h l e f = sym (eqb-true (carrier p) t (sym (had-is t p h) ∙ e)) ∙ eqb-true (carrier p) u (sym (had-is u p l) ∙ f)
 
--- so a cell of a type that isn't held is held by no other
+-- a cell of a type that isn't held is held by no other type
 unheld : (held u p : ℕ) → u < types → bitSet held u ≡ false → (carriesCell u p && cellHeld held p) ≡ false
 unheld held u p h s = go (carriesCell u p) refl
   where
@@ -52,7 +52,7 @@ unheld held u p h s = go (carriesCell u p) refl
     go true e = nowhere _ types (none e)
     go false e = refl
 
--- and one that is held has its first cell held
+-- a type that is held has its first cell held
 own : (held u : ℕ) → u < types → bitSet held u ≡ true → (carriesCell u (place u 0) && cellHeld held (place u 0)) ≡ true
 own held u h s =
     let p = place u 0 in
@@ -79,7 +79,7 @@ by-mark i = go (carriesScience (fieldsOf i .kind)) (science-type (i .bytes))
     go true t = rw (cells-by-mark (i .state .accumulation .held) (inputType i) (t refl))
     go false t = refl
 
--- one that joins is of a type that isn't held
+-- a frame that joins is of a type that isn't held
 free : (a : Accumulation) (u d : ℕ) → framesAmong a ≡ true → joins a u d ≡ true → bitSet (a .held) u ≡ false
 free a u d f e = go (bitSet (a .held) u) refl
   where

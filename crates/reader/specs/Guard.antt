@@ -68,7 +68,7 @@ pub record GuardedStepIs (s : State) (b : Buffers) (r : List ℕ) (x : Stepped) 
 abbrev pub CellsByMark : Type 0
 CellsByMark = (held u : ℕ) → u < types → alreadyHeld held u ≡ bitSet held u
 
--- and the guard comes to a test of that mark, on every input
+-- the guard comes to a test of the type's mark, on every input
 abbrev pub ByMark : Type 0
 ByMark = (i : Input) → guardHolds i ≡ not (carriesScience (fieldsOf i .kind) && (joinsOpen i && bitSet (i .state .accumulation .held) (inputType i)))
 
@@ -93,6 +93,6 @@ Is13 = (i : Input) → holdsIn guardedRules 13 i ≡ guardHolds i
 abbrev pub SameStep : Type 0
 SameStep = (s : State) (b : Buffers) (r : List ℕ) (x : Stepped) (b′ : Buffers) → GuardedStepIs s b r x b′ ↔ StepIs s b r x b′
 
--- and no step answers 13
+-- no step answers 13
 abbrev pub No13 : Type 0
 No13 = (s : State) (b : Buffers) (r : List ℕ) (x : Stepped) (b′ : Buffers) → StepIs s b r x b′ → answerNumber (x .answer) ≡ 13 → ⊥

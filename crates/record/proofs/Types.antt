@@ -167,7 +167,7 @@ eleven r h =
     let l : length p ≡ packetSize = simp (length-take, length-drop) (omega arith) in
     rw (kind-if p l) (tested (frameCode p) (secondCode p))
 
--- and so by the case of the kind that was found
+-- rule 11 by the case of the kind that was found
 pub eleven-told : (r : List ℕ) → length r ≡ size → {k v : Kind} → k ≡ kindOf (packetBytes r) → k ≡ v → defined v ≡ typeHolds r
 eleven-told r h e t = ap defined (sym t ∙ e) ∙ sym (eleven r h)
 
@@ -180,7 +180,7 @@ science-real FullBurst = refl
 science-real Other = refl
 science-real Undefined = refl
 
--- and a real-time frame's type is below 36
+-- a real-time frame's type is below 36
 pub real-type : (p : List ℕ) → isRealTime (kindOf p) ≡ true → frameType p < 36
 real-type p e = go (eqb (length p) packetSize) refl
   where

@@ -27,7 +27,7 @@ packetOf r = cond (eqb (broken r) 0) (packetBytes r) []
 abbrev pub PacketIs : List ℕ → ℕ × ℕ → List ℕ → ℕ × ℕ → Type 0
 PacketIs r = PartIs (eqb (broken r) 0) packetAt packetSize r
 
--- the same bytes of anything of a record's size
+-- the packet's bytes of anything of a record's size
 abbrev pub PacketAtIs : List ℕ → ℕ × ℕ → List ℕ → ℕ × ℕ → Type 0
 PacketAtIs r = PartIs (eqb (length r) size) packetAt packetSize r
 

@@ -79,7 +79,7 @@ pub fn carries_mag(kind: Kind) -> bool
     }
 }
 
-// Does it carry science bytes of an accumulation?
+// Does a frame of this kind carry science bytes of an accumulation?
 pub fn carries_science(kind: Kind) -> bool
     ensures { λ b. ⌜ b ≡ carriesScience kind ⌝ }
 {
@@ -92,7 +92,7 @@ pub fn carries_science(kind: Kind) -> bool
     }
 }
 
-// Does it carry a burst packet?
+// Does a frame of this kind carry a burst packet?
 pub fn carries_burst(kind: Kind) -> bool
     ensures { λ b. ⌜ b ≡ carriesBurst kind ⌝ }
 {
@@ -105,7 +105,7 @@ pub fn carries_burst(kind: Kind) -> bool
     }
 }
 
-// And a second one?
+// Does a frame of this kind carry two burst packets?
 pub fn carries_two(kind: Kind) -> bool
     ensures { λ b. ⌜ b ≡ carriesTwo kind ⌝ }
 {
@@ -125,7 +125,7 @@ pub fn first_burst(kind: Kind, code: u8) -> u8
     if carries_burst(kind) { code } else { 0 }
 }
 
-// That of the second, likewise: byte 85.
+// The type byte of the second burst packet, byte 85, of a frame that has two; else 0.
 pub(crate) fn second_burst(kind: Kind, code: u8) -> u8
     ensures { λ n. ⌜ n ≡ secondBurst kind code ⌝ }
 {

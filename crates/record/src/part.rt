@@ -54,7 +54,7 @@ pub fn mag_bytes<'a>(packet: &'a [u8]) -> &'a [u8]
     )
 }
 
-// Its ER bytes.
+// The ER bytes of a packet.
 pub fn science_bytes<'a>(packet: &'a [u8]) -> &'a [u8]
     ensures { λ p. ⌜ ScienceIs (now (packet .entry)) (packet .entry .ptr) (now p) (p .ptr) ⌝ }
 {
@@ -76,7 +76,7 @@ fn has_burst(kind: Kind, second: bool) -> bool
     carries_burst(kind)
 }
 
-// Where it stands: the first of two where MAG would.
+// Where a burst packet stands: the first of two where MAG would.
 fn burst_at(kind: Kind, second: bool) -> usize
     ensures { λ n. ⌜ n ≡ burstAt kind second ⌝ }
 {

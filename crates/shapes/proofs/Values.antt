@@ -38,7 +38,7 @@ in-of-out s = λ i. record {
       record { first = s .snapshot .first; held = s .snapshot .held; «last_type» = s .snapshot .«last_type»; cut = flag-back (s .snapshot .cut) i };
 }
 
--- and each state is of one struct: one that is a state is what is handed out of it, byte for byte
+-- each state is of one struct: one that is a state is what is handed out of it, byte for byte
 zero-if : (n : ℕ) → eqb n 0 ≡ true → 0 ≡ n
 zero-if n e = sym (eqb-true n 0 e)
 

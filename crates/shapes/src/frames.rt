@@ -14,7 +14,7 @@ pub struct CMajor {
     pub spare32: u32,
 }
 
-// Its spare field isn't looked at.
+// The major frame of C's struct, whose spare field isn't looked at.
 pub fn major_in(c: CMajor) -> Major
     ensures { λ m. ⌜ m ≡ majorIn c ⌝ }
 {

@@ -46,7 +46,7 @@ module _ (s : Snapshot) (d code : ℕ) where
       go true false = refl
       go false j = refl
 
-  -- where it has room
+  -- a packet is laid where it has room
   pub lays-room : stepPacket s d code .work .work .lays ≡ true → stepPacket s d code .work .at + burstSize ≤ snapshotSize
   unfolding stepPacket
   lays-room = go (isPart code) (joins s code) refl

@@ -7,7 +7,7 @@ use native.Mathlib.Omega.{arith}
 use lib.Dec.{eqb}
 use borrow.Author.Tests.{eqb-true, eqb-false, eq-eqb, ne-eqb}
 
--- none comes before 0
+-- no count comes before 0
 pub never-0 : (d last : ℕ) → d ≡ 0 → false ≡ eqb d (last + 1)
 never-0 d last z = sym (ne-eqb d (last + 1) (λ e. omega arith))
 

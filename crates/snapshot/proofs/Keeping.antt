@@ -36,7 +36,7 @@ marks-keep code d first held e l h =
       start = refl;
     }
 
--- one that goes on, cut or not
+-- a snapshot that goes on, cut or not
 cut-keeps : (c : Clock) (s : Snapshot) (b : Bool) (d : ℕ) → Packets c s → s .first ≤ d → Packets (accepted d) (cutIf b s)
 unfolding packetsAmong lastHighest firstFits noneOpen
 cut-keeps c s b d f l = record {
@@ -52,7 +52,7 @@ cut-keeps c s b d f l = record {
     shuts true e = e
     shuts false e = refl
 
--- its first count lies before every later one
+-- the first count of an open snapshot lies before every later one
 first-before : (c : Clock) (s : Snapshot) (d : ℕ) → Packets c s → (c .any ≡ true → c .last < d) → s .first ≤ d
 first-before c s d f above = go (eqb (s .held) 0) refl
   where
@@ -75,14 +75,14 @@ packet-keeps s d code f = go (isPart code) (joins s code) refl refl
     go true false p j = fresh p
     go false j p q = cut-keeps (accepted d) s (cuts code) d f (first-last (accepted d) s (f .fits))
 
--- none open passes with every clock
+-- no snapshot open passes with every clock
 pub none-sound : (c : Clock) → snapshotSound c noSnapshot ≡ true
 unfolding packetsAmong lastHighest firstFits noneOpen
 none-sound c =
     let fits = le-leb 0 (c .last) (omega arith) in
     is-sound c noSnapshot (record { among = refl; highest-last = refl; fits = fits; shut = refl; start = or-true (c .any) })
 
--- and a record at a later count keeps it
+-- a record at a later count keeps the snapshot's part of the state list
 pub step-sound : (c : Clock) (s : Snapshot) (d one two : ℕ) → snapshotSound c s ≡ true → (c .any ≡ true → c .last < d)
     → snapshotSound (accepted d) (stepSnapshot c s d one two .next) ≡ true
 unfolding stepSnapshot

@@ -25,6 +25,6 @@ firstFits c s = leb (s .first) (c .last)
 unfoldable pub noneOpen : Snapshot → Bool
 noneOpen s = not (eqb (s .held) 0) || (eqb (s .first) 0 && (eqb (s .«last_type») 0 && not (s .cut)))
 
--- and "Until something is accepted, all is 0" (01): no packet is held, and so the other numbers are 0 too
+-- the clauses together, with "Until something is accepted, all is 0" (01): no packet is held, and so the other numbers are 0 too
 unfoldable pub snapshotSound : Clock → Snapshot → Bool
 snapshotSound c s = packetsAmong s && (lastHighest s && (firstFits c s && (noneOpen s && begun c (s .held))))

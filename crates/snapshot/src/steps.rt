@@ -22,7 +22,7 @@ use bursts::PACKET_MARKS;
 use clock::Clock;
 use record::Record;
 
-// None: all 0.
+// No snapshot: all 0.
 pub fn no_snapshot() -> Snapshot
     ensures { λ s. ⌜ s ≡ noSnapshot ⌝ }
 {
@@ -34,7 +34,7 @@ pub fn no_snapshot() -> Snapshot
     }
 }
 
-// The report where none closes.
+// The report where no snapshot closes.
 pub fn unreported() -> SnapshotReport
     ensures { λ r. ⌜ r ≡ unreported ⌝ }
 {
@@ -45,7 +45,7 @@ pub fn unreported() -> SnapshotReport
     }
 }
 
-// What its closing reports: nothing where none is open.
+// What closing a snapshot reports: nothing where none is open.
 pub fn report(s: Snapshot) -> SnapshotReport
     ensures { λ r. ⌜ r ≡ reported s ⌝ }
 {
@@ -109,7 +109,7 @@ fn extend(s: Snapshot, code: u8) -> PacketStep
     }
 }
 
-// It closes, and a new one opens with that packet alone.
+// The open snapshot closes, and a new one opens with that packet alone.
 fn renew(s: Snapshot, d: u64, code: u8) -> PacketStep
     requires { ⌜ isPart code ≡ true ⌝ }
     ensures { λ x. ⌜ x ≡ renews s d code ⌝ }
@@ -174,7 +174,7 @@ fn passes_by(s: Snapshot, one: u8, two: u8) -> bool
     (s.held == 0) & ((one == 0) & (two == 0))
 }
 
-// It stays as it is.
+// The snapshot stays as it is.
 fn still(s: Snapshot) -> SnapshotStep
     ensures { λ x. ⌜ x ≡ leaves s ⌝ }
 {

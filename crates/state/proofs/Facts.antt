@@ -48,7 +48,7 @@ pub ready : (s : State) (f : Record) (d : ℕ) → sound s ≡ true → isLater 
     → Ready s f d
 ready s f d e l q h = record { passes = e; above = λ a. rw q (dated-above (s .clock) f l a); kind = h }
 
--- it is in place: what the parts answer is what the decision says
+-- a record that may be accepted is in place: what the parts answer is what the decision says
 module _ (s : State) (f : Record) (d : ℕ) (r : Ready s f d) where
   pub accumulation-here : (x : AccumulationStep) → x ≡ accumulation.steppedAt (s .accumulation) (carriesScience (f .kind)) (f .«frame_type») d
       → x ≡ inAccumulation s f d

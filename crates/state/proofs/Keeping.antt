@@ -95,7 +95,7 @@ step-sound i kept = go (eqb (numberOf i) 0) refl
 pub ended-sound : (s : State) → Sound s → Sound (ending s .finished .state)
 ended-sound s kept = none-sound (s .clock) (facts s (kept .passes) .clock)
 
--- and so does every one that finish hands back
+-- every state that finish hands back from one that passes, passes
 pub end-sound : (s : State) (sized : Bool) → EndKeeps s sized
 unfolding endedOf
 end-sound s sized kept = go (sized && sound s)

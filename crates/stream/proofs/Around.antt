@@ -46,7 +46,7 @@ only fates g w h = go (accumulations (run fresh lent (fed fates))) refl h
         record { count = last; serial = 5; lent = lent; stream = w; one = a; alone = e; first-is = h .0 .first; frames-are = h .0 .frames }
     go (a ∷ b ∷ os) e h = absurd (h .1)
 
--- both kept
+-- the two records, both kept
 p : Kept
 p = record { bytes = made last 5; count = last; serial = 5; lost = 0 }
 
@@ -71,7 +71,7 @@ both-stream = record {
   refused = tt;
 }
 
--- none is lost between them
+-- no count is lost between the two records
 parted-not : Parted p f → ⊥
 unfolding p f
 parted-not q = omega (arith, q refl)

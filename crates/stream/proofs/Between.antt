@@ -33,14 +33,14 @@ numbered (x ∷ xs) n = go (carriesTwo (recordOf (x .bytes) .kind)) (carriesBurs
     go false true ih = (refl, ih (n + 1))
     go false false ih = let e : n + 0 ≡ n = omega arith in subst (λ (m : ℕ). Numbered m (packetsFrom (n + 0) xs)) e (ih (n + 0))
 
--- none lies before the first
+-- no cut lies before the first packet
 pub between-none : (qs : List Packet) (n i j : ℕ) → Numbered n qs → j < n → cutBetween qs i j ≡ false
 unfolding Numbered cutBetween
 between-none [] n i j h l = refl
 between-none (q ∷ qs) n i j h l =
     rw (h .0, lt-leb n j l, and-false (ltb i n)) (between-none qs (n + 1) i j (h .1) (omega arith))
 
--- and none between a number and itself
+-- no cut between a number and itself
 pub between-same : (qs : List Packet) (i : ℕ) → cutBetween qs i i ≡ false
 unfolding cutBetween
 between-same [] i = refl

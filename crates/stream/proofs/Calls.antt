@@ -150,7 +150,7 @@ module _ (s : State) (b : Buffers) (x : Kept) (e : numberOf (input s b (x .bytes
   carries : realTime (x .bytes) ≡ true → carriesScience kind ≡ true
   carries r = science-real kind ∙ r
 
-  -- one that opens an accumulation, and one that joins
+  -- a record that opens an accumulation, and one that joins
   pub opening : realTime (x .bytes) ≡ true → joins (s .accumulation) (typeOf x) (at x) ≡ false
       → called s b (x .bytes) .result .state .accumulation ≡ started (typeOf x) (at x)
   unfolding acceptance stepAccumulation

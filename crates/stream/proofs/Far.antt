@@ -48,7 +48,7 @@ ready-then = moves fresh lent (made 0 62) ready
 clock-then : now .result .state .clock ≡ accepted 0
 clock-then = clock-after fresh lent 0 (made 0 62) ready first-stands first-passes
 
--- then n that are lost, and one more
+-- after the first record n that are lost, and one more
 module _ (n : ℕ) where
   abbrev behind : List Fate
   behind = kept (made (1 + n) 62) ∷ []
@@ -119,7 +119,7 @@ module _ (n : ℕ) where
       let t = stands-at (now .result .state) (1 + n) f (made (1 + n) 62) (filler (1 + n) .counted) in
       accepts (now .result .state) (now .left) (1 + n) (made (1 + n) 62) ready-then t (filler (1 + n) .passes)
 
--- and one further it isn't later
+-- one count further than the farthest the record isn't later
 not-later : isLater (now .result .state .clock) (recordOf (made (1 + farthest) 62)) ≡ false
 unfolding isLater
 not-later =

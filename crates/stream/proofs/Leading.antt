@@ -96,7 +96,7 @@ follows xs c k h n w =
     let ks = unspoiled c k xs in
     follow-first ks (l .count) (first-turn xs c k) (rising-counts ks (l .count) (l .serial) 0 (l .chained)) n w
 
--- so what is kept is accepted, and what is handed out is of those left
+-- what is kept is accepted, and what is handed out is of those left
 pub left-parts : (xs : List Fate) (c k : ℕ) (b : Buffers) → Ready fresh b → Sends c k xs → Follow unset (unspoiled c k xs)
     → ExtraRefused xs (run fresh b (fed xs)) → Parts (unspoiled c k xs) xs fresh b
 unfolding unspoiled Sends fed traceOf ExtraRefused

@@ -25,7 +25,7 @@ keptAt ks i = cond (hasCount ks i) 1 0
 abbrev keptBelow : List Kept → ℕ → ℕ
 keptBelow ks n = total (keptAt ks) n
 
--- none has one below them all
+-- no kept record has a count below them all
 none-there : (ks : List Kept) (low n : ℕ) → Rising at low ks → n < low → hasCount ks n ≡ false
 unfolding hasCount Rising
 none-there [] low n r h = refl

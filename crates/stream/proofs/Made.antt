@@ -60,7 +60,7 @@ module _ (c t : ℕ) (h : t < 256) where
       let low = lt-ltb (c / 256 % 256) 256 (omega arith) in
       bytes-of (made c t) (rw (high, low, lt-ltb (c % 256) 256 (omega arith), lt-ltb t 256 h) tt)
 
-  -- its count stands in bytes 6 to 8
+  -- the count of a record that is made stands in bytes 6 to 8
   made-counted : sentCount (made c t) ≡ ownOf c
   unfolding sentCount recordOf
   made-counted =
@@ -92,7 +92,7 @@ module _ (c : ℕ) where
   pub filler : Right c 62
   filler = rights .2
 
--- their kinds
+-- the kinds of the records that are made
 module _ (c : ℕ) where
   pub real-five : realTime (made c 5) ≡ true
   unfolding made isRealTime recordOf kindOf kindOfCodes isBurst

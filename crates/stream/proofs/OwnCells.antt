@@ -51,7 +51,7 @@ module _ (rs : List Kept) (c k : ℕ) (counts : Rising at c rs) (serials : Risin
       let b = every-in Typed rs x known j .typed in
       unique serial rs k x f serials j i (omega arith)
 
-  -- and whose accumulation it is, is in the part
+  -- a record whose own the accumulation is, is in its part
   own-part : (f : Kept) → In f rs → (g : List Kept) (a : ClosedAccumulation) → Part g a → Among rs g → Own rs f a → In f g
   unfolding Tied Some
   own-part f i [] a p w o = absurd (p .1)

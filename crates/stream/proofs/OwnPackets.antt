@@ -137,7 +137,7 @@ module _ (ps : List Packet) where
           ap (λ (b : Bool). cond {A = ℕ} b 1 0) (has-byte ps (e .thing) p (f .packet) i (f .carries) (f .byte))
       go p l false b = refl
 
-  -- so they number 82 for each packet held
+  -- the bytes filled number 82 for each packet held
   pub bytes-held : (os : List ClosedSnapshot) (gs : List (List Packet)) (n m : ℕ) → Pairwise SnapshotFilled gs os
       → Every (UnmixedSnapshot ps) (placed items n m os) → sum filledIn os ≡ sum (λ s. burstSize * items s) os
   unfolding Pairwise placed Every sum

@@ -121,12 +121,12 @@ unfolding sentCount
 stands-at s c h r e = let t = stands (s .clock) c h (recordOf r) e in record { later = t .0; turn = t .1; count = t .2 }
 
 module _ (s : State) (b : Buffers) (c : ℕ) (r : List ℕ) (h : Ready s b) (t : Stood s c r) where
-  -- it accepts a record that passes rules 2 to 11
+  -- a record that stands at count c and passes rules 2 to 11 is accepted
   pub accepts : broken r ≡ 0 → numberOf (input s b r) ≡ 0
   unfolding stateHolds clockHolds turnHolds
   accepts e = number-is (input s b r) ∙ rw (is-sized b (h .sized), h .sound .passes, eq-eqb (broken r) 0 e, t .later, t .turn)
 
-  -- and has its count then
+  -- once it is accepted the clock has its count
   pub clock-after : numberOf (input s b r) ≡ 0 → called s b r .result .state .clock ≡ accepted c
   unfolding called
   clock-after n = accepted-clock (input s b r) n ∙ ap (λ (d : ℕ). accepted d) (t .count)

@@ -96,7 +96,7 @@ module _ (R : Reader) (keeps : Keeps R) where
   is-call : (s : State) (b : Buffers) (r : List ℕ) → R .steps s b r ≡ called s b r
   is-call s b r = only-call s b r (R .steps s b r) (keeps .steps s b r)
 
-  -- its answer to a first record
+  -- the reader's answer to a first record
   number-is : (r : List ℕ) → answerNumber (R .steps fresh lent r .result .answer) ≡ numberOf (input fresh lent r)
   unfolding called
   number-is r = ap (λ (x : Call). answerNumber (x .result .answer)) (is-call fresh lent r) ∙ answered (input fresh lent r)
@@ -187,7 +187,7 @@ none-filled [] h = refl
 none-filled (a ∷ os) h = omega (arith, total-none (λ p. cond (isFilled (first ∷ []) a p) 1 0) cells (λ p l. rw (no-byte a p (h .0) l)), none-filled os (h .1))
 
 module _ (R : Reader) where
-  -- their traces, and what is handed out
+  -- the traces of the two streams, and what is handed out
   abbrev traceOne : Trace
   traceOne = traceOf R fresh lent (fed one)
 

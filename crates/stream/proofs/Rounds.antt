@@ -35,7 +35,7 @@ cellsFrom c fs = putAll cellsWith c fs
 unfoldable pub outOf : List Kept → ClosedAccumulation
 outOf g = record { report = record { closed = true; first = firstCount g; held = marksFrom typeOf 0 g }; cells = cellsFrom noCells g }
 
--- and while it is open: p its last frame, o other frames since
+-- an accumulation with these frames while it is open: p its last frame, o other frames since
 abbrev openWith : List Kept → Kept → ℕ → Accumulation
 openWith g p o = record { first = firstCount g; held = marksFrom typeOf 0 g; «last_type» = typeOf p; «last_count» = at p; others = o }
 

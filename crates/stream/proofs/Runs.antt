@@ -42,7 +42,7 @@ pub only-call : (s : State) (b : Buffers) (r : List ℕ) (c : Call) → StepAllo
 unfolding called
 only-call s b r c h = rw (h .result, h .left)
 
--- and at each call has this trace
+-- the only trace that the promises allow at each call is `run`
 pub only-run : (rs : List (List ℕ)) (s : State) (b : Buffers) (t : Trace) → Allowed s b rs t → t ≡ run s b rs
 unfolding Allowed traceOf
 only-run [] s b (finish e) h = rw (h .result, h .left)

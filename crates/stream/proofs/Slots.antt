@@ -85,7 +85,7 @@ module _ (g : List Kept) (r : Rising slot 0 g) where
   abbrev whole : ClosedMajor
   whole = record { frame = majorFrom noMajor g; samples = samplesFrom noSamples g }
 
-  -- those with MAG
+  -- the records with MAG
   abbrev ms : List Kept
   ms = magged g
 

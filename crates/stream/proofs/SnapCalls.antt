@@ -81,12 +81,12 @@ met-packet q s b es n = go (isPart (q .code)) (joins s (q .code)) refl
     go true false e = rw (snap-out s b, n)
     go false j e = refl
 
--- and 0, which is no packet's
+-- nothing is met of 0, which is no packet's type byte
 met-none : (d : ℕ) (bytes : List ℕ) → Met d 0 bytes []
 unfolding stepPacket isPart cuts
 met-none d bytes s b es n = rw (and-false (isOpen s))
 
--- both of a record, one after the other
+-- the two packets of a record, one after the other
 module _ (d c₁ c₂ : ℕ) (b₁ b₂ : List ℕ) (ev₁ ev₂ : List Event) (one : Met d c₁ b₁ ev₁) (two : Met d c₂ b₂ ev₂)
     (short : length b₁ ≤ burstSize) (s : Snapshot) (b : List ℕ) (es : List Event) (n : length b ≡ snapshotSize) where
   abbrev firstStep : PacketStep

@@ -33,7 +33,7 @@ module _ (gs : List (List Kept)) where
       sum-is Filled (λ a. cellsHeld (a .report)) (λ g. scienceSize * length g)
       refl (λ g h. omega (arith, length-append g h)) (λ g a f. ap (λ (n : ℕ). scienceSize * n) (f .frames)) gs
 
-  -- and the cells filled
+  -- the sum of the cells filled
   pub filled-total : (os : List ClosedAccumulation) → Pairwise Filled gs os → sum (λ a. cellsIn (a .report .held)) os ≡ scienceSize * length (flat gs)
   filled-total =
       sum-is Filled (λ a. cellsIn (a .report .held)) (λ g. scienceSize * length g)

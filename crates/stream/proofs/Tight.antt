@@ -66,7 +66,7 @@ before = record { bytes = made 100 5; count = 100; serial = 5; lost = 0 }
 after : Kept
 after = record { bytes = made 137 6; count = 137; serial = 6; lost = 36 }
 
--- its kept real-time records, its trace, and what is handed out
+-- the stream's kept real-time records, its trace, and what is handed out
 abbrev left : List Kept
 left = realUnspoiled 100 5 stream
 

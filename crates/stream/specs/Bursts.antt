@@ -29,7 +29,7 @@ firstOf n x = record { frame = x; code = frameCode (packetBytes (x .bytes)); byt
 abbrev pub secondOf : ℕ → Kept → Packet
 secondOf n x = record { frame = x; code = secondCode (packetBytes (x .bytes)); bytes = burstBytes (packetBytes (x .bytes)) true; number = n }
 
--- those of a record, from number n on: "a frame with one burst packet", "a full burst frame has two", and any other none
+-- the burst packets of a record, from number n on: "a frame with one burst packet", "a full burst frame has two", and any other none
 abbrev pub packetsOf : ℕ → Kept → List Packet
 packetsOf n x =
     cond (carriesTwo (recordOf (x .bytes) .kind)) (firstOf n x ∷ secondOf (n + 1) x ∷ [])

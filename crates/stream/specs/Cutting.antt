@@ -43,11 +43,11 @@ pub record Joined (p f : Kept) : Type 0 where
   pub rising : typeOf p < typeOf f
   pub near : lostBetween p f ≤ most (typeOf p) (typeOf f)
 
--- and in two: of two rounds, or of one that is torn here, with more lost between them than the joining rule allows
+-- two neighbours in two accumulations: of two rounds, or of one that is torn here, with more lost between them than the joining rule allows
 abbrev pub Parted : Kept → Kept → Type 0
 Parted p f = round p ≡ round f → most (typeOf p) (typeOf f) < lostBetween p f
 
--- so a sent accumulation is torn only where "36 or more counts weren't accepted" (`torn-where` in proofs/OwnCells.antt)
+-- a sent accumulation is torn only where "36 or more counts weren't accepted" (`torn-where` in proofs/OwnCells.antt)
 abbrev pub tears : ℕ
 tears = 36
 

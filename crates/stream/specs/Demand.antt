@@ -28,7 +28,7 @@ samplesListed t = sum (λ m. samplesHeld (m .frame)) (majors t)
 abbrev pub slotsListed : Trace → ℕ
 slotsListed t = sum (λ m. slotsHeld (m .frame)) (majors t)
 
--- of its snap lines the cells
+-- of the listing's snap lines the cells
 abbrev pub snapsListed : Trace → ℕ
 snapsListed t = sum (λ s. snapCellsHeld (s .report)) (snapshots t)
 
@@ -42,12 +42,12 @@ pub record Demand3 (c k : ℕ) (xs : List Fate) (t : Trace) : Type 0 where
   pub parts-whole : flat parts ≡ realUnspoiled c k xs
   pub parts-cut : AccumulationCut parts
   pub parts-out : Pairwise Filled parts (accumulations t)
-  -- the major frames handed out are the kept records, likewise
+  -- the major frames handed out are the kept records, cut into parts and filled by them
   pub major-parts : List (List Kept)
   pub major-whole : flat major-parts ≡ unspoiled c k xs
   pub major-cut : MajorCut major-parts
   pub major-out : Pairwise MajorFilled major-parts (majors t)
-  -- the snapshots handed out are the kept records' packets of types 36 to 55, likewise
+  -- the snapshots handed out are the kept records' packets of types 36 to 55, cut into parts and filled by them
   pub snapshot-parts : List (List Packet)
   pub snapshot-whole : flat snapshot-parts ≡ snapPackets (unspoiled c k xs)
   pub snapshot-cut : SnapshotCut (unspoiled c k xs) snapshot-parts

@@ -71,7 +71,7 @@ pub record NoSlot (i : ℕ) (m : ClosedMajor) : Type 0 where
   pub unheld : bitSet (m .frame .slots) i ≡ false
   pub word : getD (m .frame .words) i 0 ≡ 0
 
--- and one without MAG
+-- a slot without MAG
 pub record NoMag (i : ℕ) (m : ClosedMajor) : Type 0 where
   pub unmarked : bitSet (m .frame .«mag_slots») i ≡ false
   pub ranged : getD (m .frame .ranges) i 0 ≡ 0

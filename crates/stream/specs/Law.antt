@@ -19,7 +19,7 @@ use Rattle.stream.specs.Once.{OnceEach}
 abbrev pub DemandLaw : Type 0
 DemandLaw = (xs : List Fate) (b : Buffers) (c k : ℕ) (t : Trace) → Stream c k xs b t → Allowed fresh b (fed xs) t → Demand3 c k xs t × OnceEach c k xs t
 
--- the same of a stream "without wrapping": no turn is counted, so the full count of each record left is its own, and all are within
+-- demand 3 of a stream "without wrapping": no turn is counted, so the full count of each record left is its own, and all are within
 -- turn 4,095. 02's bound on the counts that go unaccepted in a row stays: without it this doesn't hold (`far` in proofs/Far.antt).
 -- Proved as `unwrapped` in proofs/Unwrapped.antt
 abbrev pub UnwrappedLaw : Type 0

@@ -83,7 +83,7 @@ pub record OnceEach (c k : ℕ) (xs : List Fate) (t : Trace) : Type 0 where
       → Some (λ a. Own (realUnspoiled c k xs) p a × Own (realUnspoiled c k xs) f a) (accumulations t) ⊎ (tears ≤ unaccepted (unspoiled c k xs) (at p) (at f))
   -- "the cells filled number 83 times the real-time frames left unspoiled"
   pub filled : cellsFilled (realUnspoiled c k xs) t ≡ scienceSize * length (realUnspoiled c k xs)
-  -- and every kept record in its major frame and slot
+  -- every kept record stands in its major frame and slot, of exactly one handed out; all else there is 0
   pub one-major : Every (λ f. ExactlyOne (OwnMajor f) (majors t)) (unspoiled c k xs)
   pub there-major : Every (λ f. Every (λ m. OwnMajor f m → Slotted f m) (majors t)) (unspoiled c k xs)
   pub unmixed-major : Every (UnmixedMajor (unspoiled c k xs)) (majors t)

@@ -22,7 +22,7 @@ pub record Call : Type 0 where
   pub result : Stepped
   pub left : Buffers
 
--- and the call of finish
+-- the call of finish: what it answers, and the buffers as it leaves them
 pub record End : Type 0 where
   pub result : Finished
   pub left : Buffers

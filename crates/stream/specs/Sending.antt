@@ -79,7 +79,7 @@ ExtraRefused (removed r ∷ xs) t = ExtraRefused xs t
 ExtraRefused (extra x ∷ xs) (step c t) = (0 < answerNumber (c .result .answer)) × ExtraRefused xs t
 ExtraRefused (extra x ∷ xs) (finish e) = ⊥
 
--- so it is, whatever it meets, where it fails one of rules 2 to 11 (`spoils` in proofs/Spoiling.antt)
+-- an extra is refused, whatever it meets, where it fails one of rules 2 to 11 (`spoils` in proofs/Spoiling.antt)
 unfoldable pub ExtraBroken : List Fate → Type 0
 ExtraBroken [] = Unit {0}
 ExtraBroken (kept r ∷ xs) = ExtraBroken xs
@@ -105,7 +105,7 @@ pub record Kept : Type 0 where
   pub serial : ℕ
   pub lost : ℕ
 
--- those kept, in order, with full count c and real-time number k next and l lost so far
+-- the kept records in order, with full count c and real-time number k next and l lost so far
 unfoldable pub keptOf : ℕ → ℕ → ℕ → List Fate → List Kept
 keptOf c k l [] = []
 keptOf c k l (kept r ∷ xs) = record { bytes = r; count = c; serial = k; lost = l } ∷ keptOf (c + 1) (nextReal k r) l xs

@@ -53,7 +53,7 @@ placedSnapshots t = placed (λ (s : ClosedSnapshot). packetsHeld (s .report)) 0 
 abbrev pub HasPacket : ℕ → Placed ClosedSnapshot → Type 0
 HasPacket = HasItem (λ (s : ClosedSnapshot). packetsHeld (s .report))
 
--- and the next one too
+-- the packet of number i stands in it, and the next one too
 abbrev pub HasNext : ℕ → Placed ClosedSnapshot → Type 0
 HasNext = HasBoth (λ (s : ClosedSnapshot). packetsHeld (s .report))
 
