@@ -3,17 +3,14 @@
 ghost use Prim.Native.Nat.{_≤_};
 use libc::STDOUT_FILENO;
 use programs::Source;
+use programs::Start;
 use record::Contents;
 use record::Kind;
 use record::Level;
 use record::Record;
 
-// its name, for what it says, and the letter of its option
+// its name, for what it says
 const NAME: [u8; 6] = *b"fields";
-
-const LETTERS: [u8; 1] = *b"h";
-
-const HELP: usize = 0;
 
 // Each function that prints answers whether all was written.
 fn text(bytes: &[u8]) -> bool {
@@ -146,9 +143,13 @@ fn print(from_files: bool) -> bool {
     run.all_written && source.all_read
 }
 
-fn explain() -> bool {
-    programs::write_text(
+// The options, of which it has none of its own, or what there is to say in place of records.
+fn begin() -> Start
+    ensures { λ r. ⌜ r .status ≤ 2 ⌝ }
+{
+    programs::begin(
         &NAME,
+        b"",
         b"fields [FILE]...
 
 Prints a line for each record of 472 bytes of Lunar Prospector's merged file: its
@@ -160,13 +161,6 @@ The fields: frame count, day of year, millisecond of day, the three status flags
 frame code, frame type, kind of the frame, the type byte of a second burst packet,
 subcom word, signal level and quality, each with its 32 bits.
 
-  -h   prints this
-
-A rest below 472 bytes at the end of the input is one record, refused with 2. A
-file that can't be opened or read ends the input there, and is named on standard
-error. A file whose name begins with - is named as ./-NAME.
-
-The status is 0, 1 if not all could be read or written, 2 for an unknown option.
 ",
     )
 }
@@ -176,19 +170,10 @@ The status is 0, 1 if not all could be read or written, 2 for an unknown option.
 pub extern "C" fn fields_main() -> u8
     ensures { λ r. ⌜ r ≤ 2 ⌝ }
 {
-    let options = programs::read_options(&NAME, &LETTERS);
-    if options.wrong {
-        return programs::WRONG_USE;
+    let start = begin();
+    if !start.goes_on {
+        return start.status;
     }
-    let given = options.given;
-    let is_done = if given[HELP] {
-        explain()
-    } else {
-        print(options.files)
-    };
-    if is_done {
-        programs::GOOD
-    } else {
-        programs::FAILED
-    }
+    let options = start.options;
+    programs::status(print(options.files))
 }

@@ -10,14 +10,13 @@ use programs::within;
 use run::Run;
 use state::State;
 
-// its name, for what it says, and the letters of its options, by their places
+// its name, for what it says
 pub(crate) const NAME: [u8; 5] = *b"lpmag";
 
-const LETTERS: [u8; 2] = *b"vh";
+// the letter of its option, and its place
+pub(crate) const LETTERS: [u8; 1] = *b"v";
 
 const VERBOSE: usize = 0;
-
-const HELP: usize = 1;
 
 // 256 records: large reads, and little enough to stay in a processor's second cache.
 const INPUT: usize = 256 * record::Record::SIZE;
@@ -145,19 +144,11 @@ fn list(from_files: bool, verbose: bool) -> bool {
 pub extern "C" fn lpmag_main() -> u8
     ensures { λ r. ⌜ r ≤ 2 ⌝ }
 {
-    let options = programs::read_options(&NAME, &LETTERS);
-    if options.wrong {
-        return programs::WRONG_USE;
+    let start = said::begin();
+    if !start.goes_on {
+        return start.status;
     }
+    let options = start.options;
     let given = options.given;
-    let is_done = if given[HELP] {
-        said::explain()
-    } else {
-        list(options.files, given[VERBOSE])
-    };
-    if is_done {
-        programs::GOOD
-    } else {
-        programs::FAILED
-    }
+    programs::status(list(options.files, given[VERBOSE]))
 }

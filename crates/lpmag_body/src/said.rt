@@ -1,12 +1,18 @@
 // What the program says beside the listing.
+ghost use Prim.Native.Nat.{_≤_};
+use crate::LETTERS;
 use crate::NAME;
 use libc::STDERR_FILENO;
+use programs::Start;
 use programs::within;
 
-// Answers whether it could be written.
-pub(crate) fn explain() -> bool {
-    programs::write_text(
+// The options, or what there is to say in place of a listing.
+pub(crate) fn begin() -> Start
+    ensures { λ r. ⌜ r .status ≤ 2 ⌝ }
+{
+    programs::begin(
         &NAME,
+        &LETTERS,
         b"lpmag [-v] [FILE]...
 
 Reads records of 472 bytes of Lunar Prospector's merged file, each a 2-second
@@ -26,13 +32,6 @@ Counts go on where those of the records restart at 0: 16777216 more each time.
 
   -v   also says of each refused record, on standard error, which it is, where
        it begins, the number of the rule that it breaks and what the rule says
-  -h   prints this
-
-A rest below 472 bytes at the end of the input is one record, refused with 2. A
-file that can't be opened or read ends the input there, and is named on standard
-error. A file whose name begins with - is named as ./-NAME.
-
-The status is 0, 1 if not all could be read or written, 2 for an unknown option.
 ",
     )
 }

@@ -1,12 +1,14 @@
-// A program's options, each a word of `-` and one letter; any other word is a file's name.
-ghost use Prim.Native.Nat.{_≤_};
-ghost use lib.ListN.{length};
-use crate::LETTERS;
+// A program's options, each a word of `-` and one letter, `-h` among them; any other word is a file's name.
 use crate::said;
 
+// The most letters of its own that a program knows.
+const LETTERS: usize = 8;
+
 pub struct Options {
-    // which of the letters that the program knows were given, in the order in which it names them
+    // which of the program's own letters were given, in the order in which it names them
     pub given: [bool; LETTERS],
+    // Was it asked to explain itself?
+    pub help: bool,
     // Was there an option that it doesn't know?
     pub wrong: bool,
     // Was a file named?
@@ -26,7 +28,7 @@ fn letter(word: &[u8]) -> u8 {
     if word.len() == 2 { word[1] } else { 0 }
 }
 
-// The letter's place among the letters that the program knows, or how many they are.
+// The letter's place among the program's own, or how many they are.
 fn place_of(letter: u8, letters: &[u8]) -> usize {
     let mut i = 0;
     while i < letters.len() {
@@ -42,6 +44,10 @@ fn with_word(options: Options, program: &[u8], letters: &[u8], word: &[u8]) -> O
     let mut options = options;
     if is_file(word) {
         options.files = true;
+        return options;
+    }
+    if letter(word) == b'h' {
+        options.help = true;
         return options;
     }
     let place = place_of(letter(word), letters);
@@ -63,9 +69,10 @@ fn with_argument(options: Options, program: &[u8], letters: &[u8], i: usize) -> 
 }
 
 // Each option that the program doesn't know is named on standard error.
-pub fn read_options(program: &[u8], letters: &[u8]) -> Options {
+pub(crate) fn read(program: &[u8], letters: &[u8]) -> Options {
     let mut options = Options {
         given: [false; LETTERS],
+        help: false,
         wrong: false,
         files: false,
     };

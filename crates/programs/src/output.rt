@@ -9,7 +9,7 @@ pub fn unwritten(program: &[u8]) {
 }
 
 // Answers whether all could be written, and says so if not.
-pub fn write_text(program: &[u8], text: &[u8]) -> bool {
+pub(crate) fn write_text(program: &[u8], text: &[u8]) -> bool {
     let all_written = io::write_all(STDOUT_FILENO, text);
     if !all_written {
         unwritten(program);

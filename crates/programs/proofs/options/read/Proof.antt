@@ -1,9 +1,9 @@
--- `programs::options::read_options` is safe and ends: each turn looks at one argument.
+-- `programs::options::read` is safe and ends: each turn looks at one argument.
 -- Assumes nothing.
 use Prim.Native.Nat.{_-_}
 use borrow.Author.Needs.{needs}
-use Rattle.programs.proofs.options.read_options.Statement.{statement}
-use Rattle.programs.proofs.options.read_options.Tie as tie
+use Rattle.programs.proofs.options.read.Statement.{statement}
+use Rattle.programs.proofs.options.read.Tie as tie
 
 abbrev Inv-loop : tie.InvT-loop
 Inv-loop program letters options₀ count i₀ options i = Unit {0}
@@ -32,8 +32,8 @@ loop-again c = tt
 returns : tie.Need-returns Inv-loop μ-loop
 returns c = search needs
 
-pub read-options-spec : {M : Type 1} → statement M
-read-options-spec =
+pub read-spec : {M : Type 1} → statement M
+read-spec =
     tie.close
     (tie.spec
     Inv-loop
