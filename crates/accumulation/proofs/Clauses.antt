@@ -7,6 +7,7 @@ use native.Mathlib.Omega.{arith}
 use lib.Count.{ones}
 use lib.Dec.{ltb, leb}
 use borrow.Author.Tests.{ne-eqb, le-leb, lt-leb, lt-ltb, le-ltb, ltb-true, ltb-false, leb-true, leb-false}
+use Rattle.prelude.proofs.Conds.{cases}
 use Rattle.prelude.proofs.Marks.{none-above}
 use Rattle.clock.specs.declared.Clock.{Clock}
 use Rattle.accumulation.specs.Soundness.{framesAmong, framesFit, othersFit}
@@ -15,7 +16,7 @@ use Rattle.accumulation.specs.declared.Accumulation.{Accumulation}
 
 pub type-above : (a : Accumulation) → a .held < 2 ^ 36 → (a .held ≡ 0 → ⊥) → 35 < a .«last_type» → false ≡ framesAmong a
 unfolding framesAmong
-type-above a h z l = rw (lt-ltb (a .held) (2 ^ 36) h, ne-eqb (a .held) 0 z, none-above 36 (a .«last_type») (a .held) h (omega arith))
+type-above a h z l = rw (lt-ltb, ne-eqb, none-above 36 (a .«last_type») (a .held) h (omega arith))
 
 -- no frame, at count 0
 pub none-fit : (a : Accumulation) → a .first + ones (a .held) ≡ 0 → true ≡ framesFit a
@@ -42,14 +43,13 @@ others-within c a h = leb-less (a .others) (a .«last_count») (c .last) h
 module _ (a : Accumulation) (u d : ℕ) (h : u < 64) (f : a .held < 2 ^ 36) (z : a .held ≡ 0 → ⊥) where
   here : (t : Bool) → ltb (a .«last_count» + a .others) d ≡ t → t ≡ inPlace a u d
   unfolding inPlace
-  here t e = rw (lt-ltb u 64 h, lt-ltb (a .held) (2 ^ 36) f, ne-eqb (a .held) 0 z) (sym e)
+  here t e = rw (lt-ltb, lt-ltb, ne-eqb) (sym e)
 
   pub place-late : d ≤ a .«last_count» → false ≡ inPlace a u d
   place-late l = here false (le-ltb (a .«last_count» + a .others) d (omega arith))
 
   pub place-sum : a .«last_count» < d → ltb (a .others) (d - a .«last_count») ≡ inPlace a u d
-  place-sum l = go (ltb (a .others) (d - a .«last_count»)) refl
-    where
-      go : (t : Bool) → ltb (a .others) (d - a .«last_count») ≡ t → t ≡ inPlace a u d
-      go true e = here true (lt-ltb (a .«last_count» + a .others) d (omega (arith, ltb-true (a .others) (d - a .«last_count») e)))
-      go false e = here false (le-ltb (a .«last_count» + a .others) d (omega (arith, ltb-false (a .others) (d - a .«last_count») e)))
+  place-sum l =
+      cases (ltb (a .others) (d - a .«last_count»))
+      (λ e. rw e (here true (lt-ltb (a .«last_count» + a .others) d (omega (arith, ltb-true (a .others) (d - a .«last_count») e)))))
+      (λ e. rw e (here false (le-ltb (a .«last_count» + a .others) d (omega (arith, ltb-false (a .others) (d - a .«last_count») e)))))

@@ -41,7 +41,7 @@ frames c a e =
 
 pub is-sound : (c : Clock) (a : Accumulation) → Frames c a → accumulationSound c a ≡ true
 unfolding accumulationSound
-is-sound c a f = rw (f .counted, f .among, f .fit, f .others, f .shut) (f .start)
+is-sound c a f = cc
 
 pub first-below : (a : Accumulation) → countsBelow a ≡ true → a .first < fullCounts
 unfolding countsBelow
@@ -64,7 +64,7 @@ unfolding othersFit
 others-last c a e = leb-true _ _ e
 
 pub is-open : (a : Accumulation) → isOpen a ≡ true → a .held ≡ 0 → ⊥
-is-open a e z = let y : not (eqb (a .held) 0) ≡ false = rw (eq-eqb (a .held) 0 z) in true≢false (sym e ∙ y)
+is-open a e z = let y : not (eqb (a .held) 0) ≡ false = rw eq-eqb in true≢false (sym e ∙ y)
 
 -- with none open the numbers are 0
 pub record Nought (a : Accumulation) : Type 0 where
@@ -76,7 +76,7 @@ pub record Nought (a : Accumulation) : Type 0 where
 pub none-zero : (a : Accumulation) → noneOpen a ≡ true → a .held ≡ 0 → Nought a
 unfolding noneOpen
 none-zero a e z =
-    let n : not (eqb (a .held) 0) ≡ false = rw (eq-eqb (a .held) 0 z) in
+    let n : not (eqb (a .held) 0) ≡ false = rw eq-eqb in
     let p = two (eqb (a .first) 0) _ (second (not (eqb (a .held) 0)) _ n e) in
     let q = two (eqb (a .«last_type») 0) _ (p .1) in
     let r = two (eqb (a .«last_count») 0) (eqb (a .others) 0) (q .1) in
@@ -118,7 +118,7 @@ module _ (c : Clock) (a : Accumulation) (e : accumulationSound c a ≡ true) (d 
   -- what is handed to the functions of this room is in place
   pub in-place : (u : ℕ) → u < 64 → inPlace a u d ≡ true
   unfolding inPlace
-  in-place u h = rw (lt-ltb u 64 h, lt-ltb (a .held) (2 ^ 36) (frames-36 a (known .among))) (go (eqb (a .held) 0) refl)
+  in-place u h = rw (lt-ltb, lt-ltb (a .held) (2 ^ 36) (frames-36 a (known .among))) (go (eqb (a .held) 0) refl)
     where
       go : (t : Bool) → eqb (a .held) 0 ≡ t → (t || ltb (a .«last_count» + a .others) d) ≡ true
       go true t = refl
@@ -126,7 +126,7 @@ module _ (c : Clock) (a : Accumulation) (e : accumulationSound c a ≡ true) (d 
 
   pub step-is : (science : Bool) (u : ℕ) → u < 64 → steppedAt a science u d ≡ stepAccumulation a science u d
   unfolding steppedAt
-  step-is science u h = rw (in-place u h)
+  step-is science u h = rw in-place
 
 -- what being in place tells the private functions
 module _ (a : Accumulation) (u d : ℕ) (e : inPlace a u d ≡ true) where

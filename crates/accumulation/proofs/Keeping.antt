@@ -3,7 +3,6 @@
 use mathlib.Core.Path.{_≡_, refl, sym, ap, _∙_}
 use mathlib.Core.Bool.{Bool, true, false, not, cond, _&&_, _||_, or-true}
 use Prim.Native.Nat.{ℕ, _+_, _-_, _^_, _<_}
-use native.Mathlib.Nat.{zero-add}
 use native.Mathlib.Omega.{arith}
 use lib.Count.{ones, onesIn}
 use lib.Dec.{eqb, leb}
@@ -25,7 +24,7 @@ ones-zero = refl
 
 unmarked : (u : ℕ) → marked 0 u ≡ 2 ^ u
 unfolding marked
-unmarked u = zero-add (2 ^ u)
+unmarked u = omega arith
 
 module _ (c : Clock) (a : Accumulation) (f : Frames c a) where
   keeps-joined : (u d : ℕ) → u < 36 → c .last < d → d < fullCounts → joins a u d ≡ true → Frames (accepted d) (joined a u d)
@@ -58,7 +57,7 @@ module _ (c : Clock) (a : Accumulation) (f : Frames c a) where
     where
       go : (t : Bool) → eqb (a .held) 0 ≡ t → leb (a .«last_count» + cond (not t) (a .others + 1) (a .others)) d ≡ true
       go false t = le-leb (a .«last_count» + (a .others + 1)) d (omega (arith, others-last c a (f .others), l (eqb-false (a .held) 0 t)))
-      go true t = let k = none-zero a (f .shut) (eqb-true (a .held) 0 t) in le-leb (a .«last_count» + a .others) d (omega (arith, k))
+      go true t = let k = none-zero a (f .shut) (eqb-true (a .held) 0 t) in le-leb (a .«last_count» + a .others) d (omega arith)
 
       closed : (t : Bool) → eqb (a .held) 0 ≡ t
           → (not t || (eqb (a .first) 0 && (eqb (a .«last_type») 0 && (eqb (a .«last_count») 0 && eqb (a .others) 0)))) ≡ true
@@ -72,7 +71,7 @@ unfolding countsBelow framesAmong framesFit othersFit noneOpen
 keeps-started u d k b =
     let n : 2 ^ u < 2 ^ 36 = omega (arith, pow-mono {i = u + 1} {j = 36} (omega arith), marked-below 0 u (pow-pos u), unmarked u) in
     record {
-      counted = rw (lt-ltb d fullCounts b);
+      counted = rw lt-ltb;
       among = rw (lt-ltb (2 ^ u) (2 ^ 36) n, top) (or-true (eqb (2 ^ u) 0));
       fit = le-leb (d + ones (2 ^ u) - 1) d (omega (arith, one));
       others = le-leb (d + 0) d (omega arith);
@@ -81,10 +80,10 @@ keeps-started u d k b =
     }
   where
     top : highest (2 ^ u) u ≡ true
-    top = ap (λ (x : ℕ). highest x u) (sym (unmarked u)) ∙ highest-marked 0 u (pow-pos u)
+    top = ap (λ x. highest x u) (sym (unmarked u)) ∙ highest-marked 0 u (pow-pos u)
 
     one : ones (2 ^ u) ≡ 1
-    one = ap ones (sym (unmarked u)) ∙ ones-marked 0 u (pow-pos u) ∙ ap (λ (x : ℕ). x + 1) ones-zero
+    one = ap ones (sym (unmarked u)) ∙ ones-marked 0 u (pow-pos u) ∙ ap (λ x. x + 1) ones-zero
 
 -- no accumulation open passes with every clock
 pub none-sound : (c : Clock) → accumulationSound c noAccumulation ≡ true
@@ -116,7 +115,7 @@ step-sound c a science u d e t above b = is-sound (accepted d) _ (go science (jo
 -- "With no accumulation open, its numbers are 0": until something is accepted there is none
 all-zero : (first held type count others : ℕ) → first ≡ 0 → held ≡ 0 → type ≡ 0 → count ≡ 0 → others ≡ 0
     → _≡_ {A = Accumulation} (record { first = first; held = held; «last_type» = type; «last_count» = count; others = others }) noAccumulation
-all-zero first held type count others a b c d e = rw (a, b, c, d, e)
+all-zero first held type count others a b c d e = cc
 
 pub unstarted : (c : Clock) (a : Accumulation) → accumulationSound c a ≡ true → c .any ≡ false → a ≡ noAccumulation
 unstarted c a e n =

@@ -106,15 +106,15 @@ module _ (a p : ℕ) where
   no-bin e = record { is = rw e; given = rw e }
 
   pub no-anode : 15 < a → AngleIs a p NoSuchBin
-  no-anode h = no-bin (rw (le-ltb a 16 (omega arith)))
+  no-anode h = no-bin (rw le-ltb)
 
   pub no-phase : a ≤ 15 → 7 < p → AngleIs a p NoSuchBin
-  no-phase h k = no-bin (rw (lt-ltb a 16 (omega arith), le-ltb p 8 (omega arith)))
+  no-phase h k = no-bin (rw (lt-ltb a 16 (omega arith), le-ltb))
 
   pub at-angle : a ≤ 15 → p ≤ 7 → AngleIs a p (At (rowOf a .0 + p / rowOf a .1))
   unfolding angleGiven
   at-angle h k =
       let l : a < 16 = omega arith in
       let m : p < 8 = omega arith in
-      let e : hasBin a p ≡ true = rw (lt-ltb a 16 l, lt-ltb p 8 m) in
+      let e : hasBin a p ≡ true = rw (lt-ltb, lt-ltb) in
       rw (row-right a p l m) (record { is = rw e; given = rw e })

@@ -1,8 +1,7 @@
 -- The n bytes of a number and the number in n bytes undo each other, over the order and the width.
 -- Assumes nothing.
-use mathlib.Core.Bool.{Bool, true, false}
 use mathlib.Core.List.{List}
-use mathlib.Core.Path.{_≡_, refl, sym, ap, _∙_}
+use mathlib.Core.Path.{_≡_, sym, ap, _∙_}
 use Prim.Native.Nat.{ℕ, zero, suc, _+_, _-_, _*_, _/_, _%_, _^_, _<_, _≤_}
 use native.Mathlib.Nat.{zero-add, div-eq-of-lt, mod-eq-of-lt}
 use native.Mathlib.Omega.{arith}
@@ -11,6 +10,7 @@ use lib.ListN.{length, getD, take, drop, length-take, List·getD-eq-default}
 use lib.Pow as pow
 use lib.Seq.{ext-getD, getD-take, getD-drop}
 use borrow.Author.Tests.{ltb-true, ltb-false}
+use Rattle.prelude.proofs.Conds.{cases}
 use Rattle.prelude.proofs.Built.{length-build, getD-build}
 use Rattle.bits.specs.Numbers.{Order, least, most, bit, join, number}
 use Rattle.bits.specs.Twelve.{Bytes}
@@ -30,11 +30,10 @@ module _ (o : Order) (n x : ℕ) where
   byte-at k h = getD-build byteAt n k 0 h
 
   pub are-bytes : Bytes (bytesOf o n x)
-  are-bytes i = go (ltb i n) refl
-    where
-      go : (t : Bool) → ltb i n ≡ t → getD (bytesOf o n x) i 0 < 256
-      go true t = rw (byte-at i (ltb-true i n t)) (omega arith)
-      go false t = rw (List·getD-eq-default (bytesOf o n x) 0 {n = i} (omega (arith, length-bytes, ltb-false i n t))) (omega arith)
+  are-bytes i =
+      cases (ltb i n)
+      (λ t. rw (byte-at i (ltb-true i n t)) (omega arith))
+      (λ t. rw (List·getD-eq-default (bytesOf o n x) 0 {n = i} (omega (arith, length-bytes, ltb-false i n t))) (omega arith))
 
 pub rank-below : (o : Order) (n k : ℕ) → k < n → rankOf o n k < n
 rank-below least n k h = h
@@ -55,7 +54,7 @@ part-more least n x i h = let e : 8 * suc i ≡ 8 + 8 * i = omega arith in rw e 
 part-more most n x i h =
     let s = 8 * (n - suc i) in
     let e : 8 * (n - i) ≡ s + 8 = omega arith in
-    rw (e, ← pow.shr-shr x s 8) (pow.split (x / 2 ^ s) 8)
+    rw (e, ← pow.shr-shr) (pow.split (x / 2 ^ s) 8)
 
 part-all : (o : Order) (n x : ℕ) → x < 2 ^ (8 * n) → part o n x n ≡ x
 part-all least n x h = mod-eq-of-lt h
@@ -88,13 +87,10 @@ bytes-forth o b n l h =
 
 -- a part of bytes
 pub bytes-part : (b : List ℕ) (at n : ℕ) → Bytes b → Bytes (take n (drop at b))
-bytes-part b at n h i = go (ltb i n) refl
-  where
-    go : (t : Bool) → ltb i n ≡ t → getD (take n (drop at b)) i 0 < 256
-    go true t = rw (getD-take n (drop at b) i 0 (ltb-true i n t), getD-drop at b i 0) (h (at + i))
-    go false t =
-        let l = ltb-false i n t in
-        rw (List·getD-eq-default (take n (drop at b)) 0 {n = i} (simp length-take (omega arith))) (omega arith)
+bytes-part b at n h i =
+    cases (ltb i n)
+    (λ t. rw (getD-take n (drop at b) i 0 (ltb-true i n t), getD-drop) (h (at + i)))
+    (λ t. let l = ltb-false i n t in rw (List·getD-eq-default (take n (drop at b)) 0 {n = i} (simp length-take (omega arith))) (omega arith))
 
 -- a bit, and a number, that lies in n bytes from place `at` on depends on these only
 bit-part : (o : Order) (b : List ℕ) (at n i j : ℕ) → i + j < 8 * n → bit o b (8 * at + i + j) ≡ bit o (take n (drop at b)) (i + j)
@@ -102,7 +98,7 @@ unfolding bit
 bit-part o b at n i j h =
     let q : (8 * at + i + j) / 8 ≡ at + (i + j) / 8 = omega arith in
     let r : (8 * at + i + j) % 8 ≡ (i + j) % 8 = omega arith in
-    rw (q, r, getD-take n (drop at b) ((i + j) / 8) 0 (omega arith), getD-drop at b ((i + j) / 8) 0)
+    rw (q, r, getD-take n (drop at b) ((i + j) / 8) 0 (omega arith), getD-drop)
 
 pub number-part : (o : Order) (b : List ℕ) (at n i m : ℕ) → i + m ≤ 8 * n → number o b (8 * at + i) m ≡ number o (take n (drop at b)) i m
 number-part o b at n i m h = own o b (take n (drop at b)) (8 * at + i) i m (λ j k. bit-part o b at n i j (omega arith))

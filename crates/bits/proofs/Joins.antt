@@ -11,13 +11,13 @@ use Rattle.bits.specs.Numbers.{Order, least, most, join}
 -- numbers of m and n bits joined are a number of m + n bits
 pub join-below : (o : Order) (m n x y : ℕ) → x < 2 ^ m → y < 2 ^ n → join o m x n y < 2 ^ (m + n)
 unfolding join
-join-below least m n x y h k = rw (pow-add 2 m n, mul-comm (2 ^ m) (2 ^ n)) (digits-lt k h)
-join-below most m n x y h k = rw (pow-add 2 m n) (digits-lt h k)
+join-below least m n x y h k = rw (pow-add, mul-comm (2 ^ m) (2 ^ n)) (digits-lt k h)
+join-below most m n x y h k = rw pow-add (digits-lt h k)
 
 digits : (c q r q′ r′ : ℕ) → r < c → r′ < c → q * c + r ≡ q′ * c + r′ → (q ≡ q′) × (r ≡ r′)
 digits c q r q′ r′ h h′ e = (
-  sym (digits-div q h) ∙ ap (λ (n : ℕ). n / c) e ∙ digits-div q′ h′,
-  sym (digits-mod q h) ∙ ap (λ (n : ℕ). n % c) e ∙ digits-mod q′ h′,
+  sym (digits-div q h) ∙ ap (λ n. n / c) e ∙ digits-div q′ h′,
+  sym (digits-mod q h) ∙ ap (λ n. n % c) e ∙ digits-mod q′ h′,
 )
 
 -- the joined number determines both
@@ -32,13 +32,13 @@ pub join-assoc : (o : Order) (l m n x y z : ℕ) → join o (l + m) (join o l x 
 unfolding join
 join-assoc least l m n x y z =
     sym (add-assoc (z * 2 ^ (l + m)) (y * 2 ^ l) x)
-    ∙ ap (λ (k : ℕ). z * k + y * 2 ^ l + x) (pow-add 2 l m ∙ mul-comm (2 ^ l) (2 ^ m))
-    ∙ ap (λ (k : ℕ). k + y * 2 ^ l + x) (sym (mul-assoc z (2 ^ m) (2 ^ l)))
-    ∙ ap (λ (k : ℕ). k + x) (sym (add-mul (z * 2 ^ m) y (2 ^ l)))
+    ∙ ap (λ k. z * k + y * 2 ^ l + x) (pow-add 2 l m ∙ mul-comm (2 ^ l) (2 ^ m))
+    ∙ ap (λ k. k + y * 2 ^ l + x) (sym (mul-assoc z (2 ^ m) (2 ^ l)))
+    ∙ ap (λ k. k + x) (sym (add-mul (z * 2 ^ m) y (2 ^ l)))
 join-assoc most l m n x y z =
-    ap (λ (k : ℕ). k + z) (add-mul (x * 2 ^ m) y (2 ^ n))
-    ∙ ap (λ (k : ℕ). k + y * 2 ^ n + z) (mul-assoc x (2 ^ m) (2 ^ n))
-    ∙ ap (λ (k : ℕ). x * k + y * 2 ^ n + z) (sym (pow-add 2 m n))
+    ap (λ k. k + z) (add-mul (x * 2 ^ m) y (2 ^ n))
+    ∙ ap (λ k. k + y * 2 ^ n + z) (mul-assoc x (2 ^ m) (2 ^ n))
+    ∙ ap (λ k. x * k + y * 2 ^ n + z) (sym (pow-add 2 m n))
     ∙ add-assoc (x * 2 ^ (m + n)) (y * 2 ^ n) z
 
 -- followed by nothing

@@ -6,11 +6,12 @@ use Prim.Native.Nat.{ℕ, zero, suc, _+_, _*_, _/_, _%_, _^_, _<_}
 use native.Mathlib.Nat.{add-zero, add-assoc, add-suc}
 use native.Mathlib.Numerals.{add-one}
 use native.Mathlib.Omega.{arith}
-use mathlib.Core.Bool.{Bool, true, false}
+use mathlib.Core.Bool.{Bool}
 use lib.Arith.{lt-of-le-ne, digits-div, digits-mod}
 use lib.Dec.{T, eqb, eqb→eq}
 use lib.ListN.{getD}
 use borrow.Author.Tests.{eqb-true, eqb-false}
+use Rattle.prelude.proofs.Conds.{cases}
 use Rattle.bits.specs.Numbers.{Order, least, most, bitOf, bit, join, number}
 use Rattle.bits.specs.Twelve.{front, back}
 use Rattle.prelude.specs.Upto.{both, upto}
@@ -48,11 +49,10 @@ split o b i m (suc n) =
 
 -- what holds of each below n, and of n, holds of each below n + 1
 last-or : (P : ℕ → Type 0) (n : ℕ) → ((j : ℕ) → j < n → P j) → P n → (j : ℕ) → j < suc n → P j
-last-or P n f p j h = go (eqb j n) refl
-  where
-    go : (t : Bool) → eqb j n ≡ t → P j
-    go true t = rw (eqb-true j n t) p
-    go false t = f j (lt-of-le-ne (omega arith) (eqb-false j n t))
+last-or P n f p j h =
+    cases (eqb j n)
+    (λ t. rw (eqb-true j n t) p)
+    (λ t. f j (lt-of-le-ne (omega arith) (eqb-false j n t)))
 
 -- equal numbers have equal bits
 pub bits : (o : Order) (b b′ : List ℕ) (i i′ n : ℕ) → number o b i n ≡ number o b′ i′ n → (j : ℕ) → j < n → bit o b (i + j) ≡ bit o b′ (i′ + j)
@@ -111,7 +111,7 @@ module _ (o : Order) (b : List ℕ) (h : ℕ) (byte : getD b h 0 < 256) where
   pub number-back : number o b (8 * h + 4) 4 ≡ back o (getD b h 0)
   unfolding number
   number-back =
-      rw (add-assoc (8 * h) 4 0, add-assoc (8 * h) 4 1, add-assoc (8 * h) 4 2, add-assoc (8 * h) 4 3)
+      rw (add-assoc, add-assoc (8 * h) 4 1, add-assoc (8 * h) 4 2, add-assoc (8 * h) 4 3)
       (rw (bit-in o b h 4 (omega arith), bit-in o b h 5 (omega arith), bit-in o b h 6 (omega arith), bit-in o b h 7 (omega arith))
       (back-bits o (getD b h 0) byte))
 

@@ -4,13 +4,14 @@ use mathlib.Core.Bool.{Bool, true, false, _&&_}
 use mathlib.Core.List.{List}
 use mathlib.Core.Logic.{_⊎_, inl, inr}
 use mathlib.Core.Path.{_≡_, refl, sym, ap, _∙_}
-use Prim.Native.Nat.{ℕ, _+_, _-_, _*_, _<_, _≤_}
+use Prim.Native.Nat.{ℕ, _+_, _*_, _<_, _≤_}
 use native.Mathlib.Nat.{zero-add}
 use native.Mathlib.Omega.{arith}
 use lib.Dec.{leb, ltb}
 use lib.ListN.{length, take, drop, length-drop}
 use lib.Seq.{length-take-le, take-length}
 use borrow.Author.Tests.{leb-true, leb-false, le-leb, lt-leb, lt-ltb, le-ltb}
+use Rattle.prelude.proofs.Conds.{cases}
 use Rattle.buffers.specs.Laying.{laid}
 use Rattle.buffers.proofs.Patches.{length-laid}
 use Rattle.bits.specs.Numbers.{Order, least, most, join, number, twelve, twelveIn}
@@ -46,26 +47,22 @@ module _ (o : Order) (x y : ℕ) where
 -- the numbers of three bytes of a room
 pub numbers : (o : Order) (b : List ℕ) (at k : ℕ) → k < 2 → at + 3 ≤ length b → twelveIn o (drop at b) k ≡ twelve o (take 3 (drop at b)) k
 numbers o b at k l h =
-    let e : length (drop at b) ≡ length b - at = length-drop at b in
+    let e = length-drop at b in
     rw (le-leb (12 * k + 12) (8 * length (drop at b)) (omega arith)) (rw zero-add at (number-part o (drop at b) 0 3 (12 * k) 12 (omega arith)))
 
 module _ (o : Order) (room : List ℕ) (at x y : ℕ) where
   -- written where neither is too wide
   pub narrow : x < 4096 → y < 4096 → laid (pairBytes o x y) room at ≡ pairPut o room at x y
   unfolding pairPut
-  narrow h k = rw (lt-ltb x 4096 h, lt-ltb y 4096 k)
+  narrow h k = rw (lt-ltb, lt-ltb)
 
   pub first-wide : 4096 ≤ x → room ≡ pairPut o room at x y
   unfolding pairPut
-  first-wide h = rw (le-ltb x 4096 h)
+  first-wide h = rw le-ltb
 
   pub second-wide : 4096 ≤ y → room ≡ pairPut o room at x y
   unfolding pairPut
-  second-wide h = go (ltb x 4096) refl
-    where
-      go : (t : Bool) → ltb x 4096 ≡ t → room ≡ pairPut o room at x y
-      go true t = rw (t, le-ltb y 4096 h)
-      go false t = rw t
+  second-wide h = cases (ltb x 4096) (λ t. rw (t, le-ltb)) (λ t. rw t)
 
   own : OwnOnly room (pairPut o room at x y) at 3
   unfolding pairPut

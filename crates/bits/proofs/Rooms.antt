@@ -19,19 +19,19 @@ module _ (room : List ℕ) (at : ℕ) where
   unfolding patch
   part-laid s n l h =
       let k : at + length s ≤ length room = omega arith in
-      let f : length (take at room) ≡ at = length-take-le at room (omega arith) in
-      rw (laid-in s room at k, drop-at (take at room) (s ++ drop (at + length s) room) at f) (take-at s (drop (at + length s) room) n l)
+      let f = length-take-le at room (omega arith) in
+      rw (laid-in, drop-at (take at room) (s ++ drop (at + length s) room) at f) (take-at s (drop (at + length s) room) n l)
 
   -- what stood there, written again
   pub laid-same : (n : ℕ) → at + n ≤ length room → laid (take n (drop at room)) room at ≡ room
   unfolding patch
   laid-same n h =
       let s = take n (drop at room) in
-      let l : length s ≡ n = length-take-le n (drop at room) (simp length-drop (omega arith)) in
+      let l = length-take-le n (drop at room) (simp length-drop (omega arith)) in
       laid-in s room at (omega arith)
-      ∙ ap (λ (m : ℕ). take at room ++ (s ++ drop (at + m) room)) l
-      ∙ ap (λ (y : List ℕ). take at room ++ (s ++ y)) (sym (drop-drop n at room))
-      ∙ ap (λ (y : List ℕ). take at room ++ y) (take-append-drop n (drop at room))
+      ∙ ap (λ m. take at room ++ (s ++ drop (at + m) room)) l
+      ∙ ap (λ y. take at room ++ (s ++ y)) (sym (drop-drop n at room))
+      ∙ ap (λ y. take at room ++ y) (take-append-drop n (drop at room))
       ∙ take-append-drop at room
 
   -- only their own places change, whatever test they passed

@@ -1,6 +1,6 @@
 -- The law of signed 16-bit numbers, and what their code computes.
 -- Assumes nothing.
-use mathlib.Core.Bool.{Bool, true, false, cond, false≢true}
+use mathlib.Core.Bool.{Bool, true, false, cond}
 use mathlib.Core.List.{List}
 use mathlib.Core.Path.{_≡_, refl, sym, ap, _∙_}
 use Prim.Native.Nat.{ℕ, suc, _+_, _-_, _<_, _≤_}
@@ -13,6 +13,7 @@ use mir.Syntax.{w16, w32}
 use mir.Val.{Fits, SFits, toZ, ofZ}
 use mir.ValLaws.{toZ-pos, toZ-ofZ}
 use borrow.Author.Tests.{lt-ltb, le-ltb, ltb-true, ltb-false}
+use Rattle.prelude.proofs.Conds.{cases}
 use Rattle.bits.specs.Numbers.{most, wordIn}
 use Rattle.bits.specs.Twelve.{Bytes}
 use Rattle.bits.specs.Putting.{bytesOf, wordPut, OwnOnly}
@@ -23,7 +24,7 @@ use Rattle.bits.proofs.WordBytes.{small-word}
 use Rattle.bits.proofs.WordsPut as words
 
 less : (w : ℕ) → w < 65536 → pos w -ℤ pos 65536 ≡ negsuc (65536 - suc w)
-less w h = rw (lt-ltb w 65536 h)
+less w h = rw lt-ltb
 
 -- a number and the word that stands for it
 pub unsigned-small : (z : ℤ) → InSixteen z → unsignedOf z < 65536
@@ -31,35 +32,30 @@ unsigned-small (pos n) h = omega arith
 unsigned-small (negsuc n) h = omega arith
 
 pub signed-back : (z : ℤ) → InSixteen z → signedOf (unsignedOf z) ≡ z
-signed-back (pos n) h = rw (lt-ltb n 32768 h)
+signed-back (pos n) h = rw lt-ltb
 signed-back (negsuc n) h =
     let e : 65536 - suc (65536 - suc n) ≡ n = omega arith in
     rw (le-ltb (65536 - suc n) 32768 (omega arith), less (65536 - suc n) (omega arith), e)
 
 pub signed-forth : (w : ℕ) → w < 65536 → unsignedOf (signedOf w) ≡ w
-signed-forth w h = go (ltb w 32768) refl
-  where
-    go : (t : Bool) → ltb w 32768 ≡ t → unsignedOf (signedOf w) ≡ w
-    go true t = rw t
-    go false t = rw (t, less w h) (omega (arith, ltb-false w 32768 t))
+signed-forth w h = cases (ltb w 32768) (λ t. rw t) (λ t. rw (t, less w h) (omega arith))
 
 -- what a word stands for is never too wide
 pub signed-fits : (w : ℕ) → w < 65536 → InSixteen (signedOf w)
-signed-fits w h = go (ltb w 32768) refl
-  where
-    go : (t : Bool) → ltb w 32768 ≡ t → InSixteen (signedOf w)
-    go true t = rw t (ltb-true w 32768 t)
-    go false t = rw (t, less w h) (omega (arith, ltb-false w 32768 t))
+signed-fits w h =
+    cases (ltb w 32768)
+    (λ t. rw t (ltb-true w 32768 t))
+    (λ t. rw (t, less w h) (omega (arith, ltb-false w 32768 t)))
 
 module _ (room : List ℕ) (at : ℕ) where
   -- written where it is not too wide
   pub narrow : (z : ℤ) → InSixteen z → wordPut room at 2 (unsignedOf z) ≡ signedPut room at z
   unfolding signedPut
-  narrow z h = rw (lt-ltb (mag z) 32768 h)
+  narrow z h = rw lt-ltb
 
   too-wide : (z : ℤ) → 32768 ≤ mag z → signedPut room at z ≡ room
   unfolding signedPut
-  too-wide z h = rw (le-ltb (mag z) 32768 h)
+  too-wide z h = rw le-ltb
 
   own : (z : ℤ) → OwnOnly room (signedPut room at z) at 2
   unfolding signedPut
@@ -86,7 +82,7 @@ law room at z = record { back = back room at z; forth = forth room at; own = own
 
 -- From a word: below 2 ^ 15 it is the number.
 pub low : (w : ℕ) → w < 32768 → toZ w16 w ≡ signedOf w
-low w h = toZ-pos w16 w h ∙ rw (lt-ltb w 32768 h)
+low w h = toZ-pos w16 w h ∙ rw lt-ltb
 
 -- Else 2 ^ 16 is taken away, in 32 bits.
 module _ (w : ℕ) (k : 32768 ≤ w) (h : w < 65536) where
@@ -103,7 +99,7 @@ module _ (w : ℕ) (k : 32768 ≤ w) (h : w < 65536) where
   high-fits = rw same (record { sfits = omega arith })
 
   pub high : toZ w16 (ofZ w16 (toZ w32 (ofZ w32 (toZ w32 w -ℤ pos 65536)))) ≡ signedOf w
-  high = toZ-ofZ w16 (toZ w32 (ofZ w32 (toZ w32 w -ℤ pos 65536))) high-fits ∙ same ∙ sym (rw (le-ltb w 32768 k) (less w h))
+  high = toZ-ofZ w16 (toZ w32 (ofZ w32 (toZ w32 w -ℤ pos 65536))) high-fits ∙ same ∙ sym (rw le-ltb (less w h))
 
 -- To a word: 2 ^ 16 is added in 32 bits where the number is negative.
 negative : (z : ℤ) → InSixteen z → ltZ z (pos 0) ≡ true → z +ℤ pos 65536 ≡ pos (unsignedOf z)
@@ -112,14 +108,14 @@ negative (negsuc n) h e = rw (le-ltb 65536 (suc n) (omega arith))
 
 not-negative : (z : ℤ) → ltZ z (pos 0) ≡ false → z ≡ pos (unsignedOf z)
 not-negative (pos n) e = refl
-not-negative (negsuc n) e = absurd (false≢true (sym e))
+not-negative (negsuc n) e = cc
 
 module _ (z : ℤ) (f : SFits w16 z) where
   cell : toZ w16 (ofZ w16 z) ≡ z
   cell = toZ-ofZ w16 z f
 
   wide : SFits w32 z
-  wide = record { sfits = omega (arith, f .sfits) }
+  wide = omega arith
 
   pub wide-fits : SFits w32 (toZ w16 (ofZ w16 z))
   wide-fits = rw cell wide

@@ -9,6 +9,7 @@ use native.Mathlib.Omega.{arith}
 use lib.Dec.{eqb, leb}
 use lib.ListN.{length, getD}
 use borrow.Author.Tests.{eqb-true, eqb-false, leb-true, le-leb, lt-leb, not-true, not-false}
+use Rattle.prelude.proofs.Conds.{cases}
 use Rattle.bits.specs.Numbers.{Order, least, most, join, number, twelve, twelveIn}
 use Rattle.bits.specs.Twelve.{Bytes, front, back, fromBytes, TwelveLaw}
 use Rattle.bits.specs.inner.Parts.{PartsOf}
@@ -32,15 +33,10 @@ module _ (o : Order) (b : List ℕ) (h : ℕ) where
 -- what the number at place k is
 pub is : (o : Order) (b : List ℕ) (k : ℕ) → Bytes b → twelve o b k ≡ fromBytes o b k
 unfolding fromBytes
-is o b k bytes = go (eqb (k % 2) 0) refl
-  where
-    go : (t : Bool) → eqb (k % 2) 0 ≡ t → twelve o b k ≡ fromBytes o b k
-    go true t =
-        let e : 12 * k ≡ 24 * (k / 2) = omega (arith, eqb-true (k % 2) 0 t) in
-        rw (e, t, mul-comm (k / 2) 3) (even o b (k / 2) (bytes _) (bytes _))
-    go false t =
-        let e : 12 * k ≡ 24 * (k / 2) + 12 = omega (arith, eqb-false (k % 2) 0 t) in
-        rw (e, t, mul-comm (k / 2) 3) (odd o b (k / 2) (bytes _) (bytes _))
+is o b k bytes =
+    cases (eqb (k % 2) 0)
+    (λ t. let e : 12 * k ≡ 24 * (k / 2) = omega (arith, eqb-true (k % 2) 0 t) in rw (e, t, mul-comm (k / 2) 3) (even o b (k / 2) (bytes _) (bytes _)))
+    (λ t. let e : 12 * k ≡ 24 * (k / 2) + 12 = omega (arith, eqb-false (k % 2) 0 t) in rw (e, t, mul-comm (k / 2) 3) (odd o b (k / 2) (bytes _) (bytes _)))
 
 -- two numbers as one
 pair-of : (o : Order) (b : List ℕ) (h : ℕ) → number o b (8 * (3 * h)) 24 ≡ join o 12 (twelve o b (2 * h)) 12 (twelve o b (2 * h + 1))
@@ -117,8 +113,7 @@ module _ (b : List ℕ) (k w s : ℕ) (bytes : Bytes b) (p : PartsOf b k w s) wh
 
 -- the last byte and a half, of bytes that are not a whole number of threes
 pub third : (n k : ℕ) → n / 3 ≡ k / 2 → k % 2 ≡ 0 → eqb (n % 3) 2 ≡ leb (12 * k + 12) (8 * n)
-third n k e h = go (eqb (n % 3) 2) refl
-  where
-    go : (t : Bool) → eqb (n % 3) 2 ≡ t → t ≡ leb (12 * k + 12) (8 * n)
-    go true t = sym (le-leb (12 * k + 12) (8 * n) (omega (arith, eqb-true (n % 3) 2 t)))
-    go false t = sym (lt-leb (12 * k + 12) (8 * n) (omega (arith, eqb-false (n % 3) 2 t)))
+third n k e h =
+    cases (eqb (n % 3) 2)
+    (λ t. rw t (sym (le-leb (12 * k + 12) (8 * n) (omega (arith, eqb-true (n % 3) 2 t)))))
+    (λ t. rw t (sym (lt-leb (12 * k + 12) (8 * n) (omega (arith, eqb-false (n % 3) 2 t)))))

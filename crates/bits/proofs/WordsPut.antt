@@ -21,16 +21,16 @@ use Rattle.bits.proofs.WordBytes.{inside, small-word}
 
 -- a word is that of its own bytes
 pub word-part : (b : List ℕ) (at n : ℕ) → at + n ≤ length b → wordIn b at n ≡ number most (take n (drop at b)) 0 (8 * n)
-word-part b at n h = sym (inside b at n h) ∙ rw (add-zero (8 * at)) at (number-part most b at n 0 (8 * n) (omega arith))
+word-part b at n h = sym (inside b at n h) ∙ rw add-zero at (number-part most b at n 0 (8 * n) (omega arith))
 
 -- written where it is not too wide
 pub narrow : (room : List ℕ) (at n x : ℕ) → x < 2 ^ (8 * n) → laid (bytesOf most n x) room at ≡ wordPut room at n x
 unfolding wordPut
-narrow room at n x h = rw (lt-ltb x (2 ^ (8 * n)) h)
+narrow room at n x h = rw lt-ltb
 
 pub wide : (room : List ℕ) (at n x : ℕ) → 2 ^ (8 * n) ≤ x → room ≡ wordPut room at n x
 unfolding wordPut
-wide room at n x h = rw (le-ltb x (2 ^ (8 * n)) h)
+wide room at n x h = rw le-ltb
 
 back : (room : List ℕ) (at n x : ℕ) → at + n ≤ length room → x < 2 ^ (8 * n) → wordIn (wordPut room at n x) at n ≡ x
 back room at n x h l =

@@ -16,7 +16,7 @@ module _ {ℓ} {A : Type ℓ} where
   pub read-all : (s : List A) (at n : ℕ) (z : A) → at + n ≤ length s → build (λ k. getD s (at + k) z) n ≡ take n (drop at s)
   read-all s at n z h =
       let f : ℕ → A = λ k. getD s (at + k) z in
-      let l : length (take n (drop at s)) ≡ n = length-take-le n (drop at s) (simp length-drop (omega arith)) in
+      let l = length-take-le n (drop at s) (simp length-drop (omega arith)) in
       ext-getD z (build f n) (take n (drop at s)) (length-build f n ∙ sym l)
       (λ k i.
       let j : k < n = omega (arith, length-build f n) in
@@ -36,14 +36,14 @@ module _ {ℓ} {A : Type ℓ} where
       → patch c i b ≡ take (i + n) s ++ drop (i + n) d
   unfolding patch
   block-more s d b c i n h q e =
-      let l : length (take i s) ≡ i = length-take-le i s (omega arith) in
-      let m : length b ≡ n = ap length q ∙ length-take-le n (drop i s) (simp length-drop (omega arith)) in
-      let f : take i c ≡ take i s = ap (take i) e ∙ take-at (take i s) (drop i d) i l in
+      let l = length-take-le i s (omega arith) in
+      let m = ap length q ∙ length-take-le n (drop i s) (simp length-drop (omega arith)) in
+      let f = ap (take i) e ∙ take-at (take i s) (drop i d) i l in
       let j = length b in
-      let g : drop (i + j) c ≡ drop (i + n) d =
+      let g =
       sym (drop-drop j i c)
-      ∙ ap (λ (x : List A). drop j (drop i x)) e
+      ∙ ap (λ x. drop j (drop i x)) e
       ∙ ap (drop j) (drop-at (take i s) (drop i d) i l)
       ∙ drop-drop j i d
-      ∙ ap (λ (x : ℕ). drop (i + x) d) m in
+      ∙ ap (λ x. drop (i + x) d) m in
       rw (f, g, q, take-add i n s) (sym (append-assoc (take i s) (take n (drop i s)) (drop (i + n) d)))

@@ -15,9 +15,9 @@ module _ {ℓ} {A : Type ℓ} where
   copy-suc : (n : ℕ) (s d : List A) (z : A) → n < length s → length s ≡ length d
       → set (take n s ++ drop n d) n (getD s n z) ≡ take (suc n) s ++ drop (suc n) d
   copy-suc n [] d z l e = absurd (not-suc-le-zero l)
-  copy-suc n (x ∷ s) [] z l e = absurd (omega arith)
+  copy-suc n (x ∷ s) [] z l e = cc
   copy-suc zero (x ∷ s) (y ∷ d) z l e = refl
-  copy-suc (suc n) (x ∷ s) (y ∷ d) z l e = ap (λ (t : List A). x ∷ t) (copy-suc n s d z (le-of-suc-le-suc l) (omega arith))
+  copy-suc (suc n) (x ∷ s) (y ∷ d) z l e = rw (copy-suc n s d z (le-of-suc-le-suc l) (omega arith))
 
   -- a turn: the first n are copied, the rest is as found
   pub copy-more : (n : ℕ) (s d : List A) (z : A) → n < length s → length s ≡ length d
@@ -29,14 +29,14 @@ module _ {ℓ} {A : Type ℓ} where
 
   -- the two answers
   pub copy-same : (s d : List A) → length s ≡ length d → s ≡ copied s d
-  copy-same s d h = rw (eq-eqb (length s) (length d) h)
+  copy-same s d h = rw eq-eqb
 
   pub copy-none : (s d : List A) → (length s ≡ length d → ⊥) → d ≡ copied s d
-  copy-none s d h = rw (ne-eqb (length s) (length d) h)
+  copy-none s d h = rw ne-eqb
 
   -- where a second loop starts: the first i are copied, the rest is as the loop finds it
   pub copy-start : (i : ℕ) (s d e : List A) → i ≤ length s → e ≡ take i s ++ drop i d → e ≡ take i s ++ drop i e
   copy-start i s d e h q =
-      let l : length (take i s) ≡ i = length-take-le i s h in
-      let f : drop i e ≡ drop i d = ap (drop i) q ∙ drop-at (take i s) (drop i d) i l in
-      q ∙ ap (λ (x : List A). take i s ++ x) (sym f)
+      let l = length-take-le i s h in
+      let f = ap (drop i) q ∙ drop-at (take i s) (drop i d) i l in
+      q ∙ rw (sym f)

@@ -1,6 +1,6 @@
 -- Turns of a loop that clears, over any element type.
 -- Assumes nothing.
-use mathlib.Core.Path.{_≡_, refl, ap}
+use mathlib.Core.Path.{_≡_, refl}
 use mathlib.Core.List.{List, [], _∷_, _++_, append-nil}
 use Prim.Native.Nat.{ℕ, zero, suc, _+_, _<_}
 use native.Mathlib.Nat.{not-suc-le-zero, le-of-suc-le-suc}
@@ -13,7 +13,7 @@ module _ {ℓ} {A : Type ℓ} (v : A) where
   fill-suc : (n : ℕ) (d : List A) → n < length d → set (replicate n v ++ drop n d) n v ≡ replicate (suc n) v ++ drop (suc n) d
   fill-suc n [] l = absurd (not-suc-le-zero l)
   fill-suc zero (x ∷ d) l = refl
-  fill-suc (suc n) (x ∷ d) l = ap (λ (t : List A). v ∷ t) (fill-suc n d (le-of-suc-le-suc l))
+  fill-suc (suc n) (x ∷ d) l = rw (fill-suc n d (le-of-suc-le-suc l))
 
   -- a turn: the first n are cleared, the rest is as found
   pub fill-more : (n : ℕ) (d : List A) → n < length d → set (replicate n v ++ drop n d) n v ≡ replicate (n + 1) v ++ drop (n + 1) d

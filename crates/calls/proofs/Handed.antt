@@ -5,7 +5,8 @@ use mathlib.Core.Bool.{Bool, true, false, cond}
 use mathlib.Core.List.{List}
 use mathlib.Core.Path.{_≡_, refl, sym, ap, _∙_}
 use lib.Dec.{eqb}
-use Rattle.state.specs.Deciding.{Input, numberOf, decidedOf, answerNumber, fieldsOf, countAt, magRange, acceptance, refusal}
+use Rattle.prelude.proofs.Conds.{cases}
+use Rattle.state.specs.Deciding.{Input, numberOf, decidedOf, answerNumber, acceptance}
 use Rattle.state.specs.Ending.{endingNumber}
 use Rattle.state.specs.declared.deciding.Answer.{Answer}
 use Rattle.state.specs.declared.deciding.Answer.the-variants.{Refused, Accepted}
@@ -31,7 +32,7 @@ use Rattle.calls.specs.declared.feeding.CFeeding.{CFeeding}
 
 -- a test that has its answer
 chosen {ℓ} : {A : Type ℓ} (t b : Bool) (x y : A) → t ≡ b → cond b x y ≡ cond t x y
-chosen t b x y e = sym (ap (λ (z : Bool). cond z x y) e)
+chosen t b x y e = cc
 
 -- the number of what is handed over
 handed-number : (x : Stepped) (s : CState) (p : CReport) → handed x s p .answer ≡ answerNumber (x .answer)
@@ -53,17 +54,14 @@ closed-number x s c = go (x .ending)
 -- a step's refusal has a number
 numbered-so : (i : Input) → numbered (decidedOf i .stepped .answer) ≡ decidedOf i .stepped .answer
 unfolding decidedOf acceptance notZero
-numbered-so i = go (eqb (numberOf i) 0) refl
-  where
-    go : (t : Bool) → eqb (numberOf i) 0 ≡ t
-        → numbered (cond t (acceptance (i .state) (fieldsOf i) (countAt i) (magRange i)) (refusal (i .state) (numberOf i)) .stepped .answer)
-        ≡ cond t (acceptance (i .state) (fieldsOf i) (countAt i) (magRange i)) (refusal (i .state) (numberOf i)) .stepped .answer
-    go true e = refl
-    go false e = ap (λ (t : Bool). Refused (cond t 1 (numberOf i))) e
+numbered-so i =
+    cases (eqb (numberOf i) 0)
+    (λ e. rw e)
+    (λ e. rw e (rw e))
 
 handed-so : (i : Input) (s : CState) (p : CReport) → handedAs (decidedOf i .stepped) s p ≡ handed (decidedOf i .stepped) s p
 unfolding handed handedAs
-handed-so i s p = ap (λ (a : Answer). handedBy a (decidedOf i .stepped) s p) (numbered-so i)
+handed-so i s p = rw (numbered-so i)
 
 module _ (s : CState) (b : Buffers) where
   module _ (p : CReport) (r : List ℕ) where
@@ -74,10 +72,10 @@ module _ (s : CState) (b : Buffers) where
         → StepGiven s p b r y b′
     step-given e x b′ is y h =
         let i = input (stateIn s) b r in
-        let q = h ∙ ap (λ (z : Stepped). handedAs z s p) (is .result) ∙ handed-so i s p in
-        let n = ap (λ (z : CStepped). z .answer) q ∙ handed-number (decidedOf i .stepped) s p in
+        let q = h ∙ ap (λ z. handedAs z s p) (is .result) ∙ handed-so i s p in
+        let n = ap (λ z. z .answer) q ∙ handed-number (decidedOf i .stepped) s p in
         record {
-          number = n ∙ ap (λ (z : Stepped). answerNumber (z .answer)) (sym (is .result)) ∙ is .number ∙ chosen (isState s) true _ _ e;
+          number = n ∙ ap (λ z. answerNumber (z .answer)) (sym (is .result)) ∙ is .number ∙ chosen (isState s) true _ _ e;
           result = q ∙ chosen (isState s) true _ _ e;
           left = is .left ∙ chosen (isState s) true _ _ e;
         }
@@ -89,8 +87,8 @@ module _ (s : CState) (b : Buffers) where
     pub finish-given : isState s ≡ true → (x : Finished) (b′ : Buffers) → FinishIs (stateIn s) b x b′ → (y : CFinished) → y ≡ handedClosed x s c
         → FinishGiven s c b y b′
     finish-given e x b′ is y h = record {
-      number = ap (λ (z : CFinished). z .answer) h ∙ closed-number x s c ∙ is .number ∙ chosen (isState s) true _ _ e;
-      result = h ∙ ap (λ (z : Finished). handedClosed z s c) (is .result) ∙ chosen (isState s) true _ _ e;
+      number = ap (λ z. z .answer) h ∙ closed-number x s c ∙ is .number ∙ chosen (isState s) true _ _ e;
+      result = h ∙ ap (λ z. handedClosed z s c) (is .result) ∙ chosen (isState s) true _ _ e;
       left = is .left ∙ chosen (isState s) true _ _ e;
     }
 

@@ -8,7 +8,6 @@ use lib.Ieee.{Float}
 use lib.IntN.{ℤ}
 use borrow.Author.Tests.{ne-eqb}
 use Rattle.prelude.proofs.Single.{one}
-use Rattle.record.specs.Layout.{packetBytes}
 use Rattle.record.specs.Rules.{broken}
 use Rattle.record.specs.Contents.{recordOf}
 use Rattle.shapes.specs.Fields.{fieldsOut}
@@ -58,7 +57,7 @@ module _ (s : CState) (b c d : Buffers) where
 -- and so do the three that 02, request 2, adds)
 pub fields-kept : (c : CFields) (r : List ℕ) (y : CContents) → FieldsGiven c r y → (y .answer ≡ 0 → ⊥) → y ≡ backFields (y .answer) c
 fields-kept c r y is z =
-    let e = ap (λ (t : Bool). cond t (fieldsOut (recordOf r)) c) (ne-eqb (broken r) 0 (λ n. z (is .number ∙ n))) in
+    let e = ap (λ t. cond t (fieldsOut (recordOf r)) c) (ne-eqb (broken r) 0 (λ n. z (is .number ∙ n))) in
     ap (backFields (y .answer)) (is .written ∙ e)
 
 module _ (s : CState) (b b′ : Buffers) where
@@ -72,9 +71,9 @@ module _ (s : CState) (b b′ : Buffers) where
             → b′ ≡ cond t (stepped (stateIn s) b r) b → (y ≡ handedBack (y .answer) s p) × (b′ ≡ b)
         go true n e l =
             let q = refused-is (input (stateIn s) b r) (λ o. z (n ∙ o)) in
-            let f = e ∙ ap (λ (x : Decided). handed (x .stepped) s p) q in
-            (f ∙ sym (ap (λ (x : CStepped). handedBack (x .answer) s p) f), l ∙ ap (λ (x : Decided). worked (x .works) (packetBytes r) b) q)
-        go false n e l = (e ∙ sym (ap (λ (x : CStepped). handedBack (x .answer) s p) e), l)
+            let f = e ∙ ap (λ x. handed (x .stepped) s p) q in
+            (f ∙ sym (rw f), l ∙ rw q)
+        go false n e l = (e ∙ sym (rw e), l)
 
   module _ (p : CClosed) (y : CFinished) (is : FinishGiven s p b y b′) (z : y .answer ≡ 0 → ⊥) where
     pub finish-kept : (y ≡ backClosed (y .answer) s p) × (b′ ≡ b)
@@ -86,8 +85,8 @@ module _ (s : CState) (b b′ : Buffers) where
             → b′ ≡ cond t (worked (cond u (ending (stateIn s)) (unended (stateIn s)) .works) [] b) b
             → (y ≡ backClosed (y .answer) s p) × (b′ ≡ b)
         go true true n e l = absurd (z n)
-        go true false n e l = (e ∙ sym (ap (λ (x : CFinished). backClosed (x .answer) s p) e), l)
-        go false u n e l = (e ∙ sym (ap (λ (x : CFinished). backClosed (x .answer) s p) e), l)
+        go true false n e l = (e ∙ sym (rw e), l)
+        go false u n e l = (e ∙ sym (rw e), l)
 
   module _ (f : CFed) (bytes : List ℕ) (y : CFeeding) (is : FeedGiven s f b bytes y b′) (z : y .answer ≡ 0 → ⊥) where
     pub feed-kept : (y ≡ backFed (y .answer) s f) × (b′ ≡ b)
@@ -95,5 +94,5 @@ module _ (s : CState) (b b′ : Buffers) where
       where
         go : (t : Bool) → y ≡ cond t (handedFed (fedFrom s b bytes .fed)) (backFed 1 s f) → b′ ≡ cond t (fedFrom s b bytes .lent) b
             → (y ≡ backFed (y .answer) s f) × (b′ ≡ b)
-        go true e l = absurd (z (ap (λ (x : CFeeding). x .answer) e))
-        go false e l = (e ∙ sym (ap (λ (x : CFeeding). backFed (x .answer) s f) e), l)
+        go true e l = absurd (z (rw e))
+        go false e l = (e ∙ sym (rw e), l)

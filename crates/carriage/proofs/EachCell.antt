@@ -1,13 +1,14 @@
 -- One computed test over the table: 83 cells a type, each of 2,988 cells once; and the code finds the type of each.
 -- Assumes nothing.
 use mathlib.Core.Path.{_≡_, refl, sym, ap, subst, _∙_}
-use mathlib.Core.Bool.{Bool, true, false, cond, false≢true}
+use mathlib.Core.Bool.{Bool, true, false, false≢true}
 use mathlib.Core.List.{[]}
 use Prim.Native.Nat.{ℕ, _+_, _*_, _-_, _%_, _/_, _<_, _≤_}
 use native.Mathlib.Omega.{arith}
 use lib.Dec.{T, eqb, ltb, eqb→eq, ltb→lt}
 use lib.ListN.{length}
 use borrow.Author.Tests.{eq-eqb, ne-eqb, lt-ltb, le-ltb, ltb-true, ltb-false}
+use Rattle.prelude.proofs.Conds.{cases}
 use Rattle.prelude.specs.Upto.{both, upto}
 use Rattle.prelude.proofs.Upto.{both-left, both-right, upto-at}
 use Rattle.carriage.specs.Carriage.{samplesIn, types, scienceSize, cells, threeD, rows, totalSize, someHas, byteIn}
@@ -76,7 +77,7 @@ is-back p h =
     let t = p / 83 in
     let k = p % 83 in
     let e : t * 83 + k ≡ p = omega arith in
-    let a : T (back p) = subst (λ (q : ℕ). T (back q)) e (both-right (there t k) (back (t * 83 + k)) (at t k (omega arith) (omega arith))) in
+    let a = rw e at (both-right (there t k) (back (t * 83 + k)) (at t k (omega arith) (omega arith))) in
     let b = both-right (ltb (typeOf p) types) _ a in
     record {
       type = ltb→lt _ _ (both-left (ltb (typeOf p) types) _ a);
@@ -98,15 +99,11 @@ unfolding place
 had t p h e =
     let b = had-place (runsOf (rowOf t)) p e in
     let n = total-83 t h in
-    let i = is-there t (byteFor t p) h (omega (arith, b .0)) in
+    let i = is-there t (byteFor t p) h (omega arith) in
     record { cell = subst (λ (q : ℕ). q < cells) (b .1) (i .cell); type = subst (λ (q : ℕ). typeOf q ≡ t) (b .1) (i .type) }
 
 not-had : (t p : ℕ) → t < types → (Had t p → ⊥) → someHas (runsOf (rowOf t)) p ≡ false
-not-had t p h n = go (someHas (runsOf (rowOf t)) p) refl
-  where
-    go : (b : Bool) → someHas (runsOf (rowOf t)) p ≡ b → b ≡ false
-    go true e = absurd (n (had t p h e))
-    go false e = refl
+not-had t p h n = cases (someHas (runsOf (rowOf t)) p) (λ e. rw e (absurd (n (had t p h e)))) (λ e. rw e)
 
 -- the code finds the type that carries a cell
 pub carrier-is : (p : ℕ) → p < cells → carrier p ≡ typeOf p
@@ -158,34 +155,30 @@ once p h =
 -- what the code's two ways of finding a type answer
 pub rest-is : (x : ℕ) → x < restSize → inHalf (18 * (x / 662)) (x % 662) ≡ carrier (restCell x)
 unfolding restType
-rest-is x h = go (ltb x 4) refl
-  where
-    go : (b : Bool) → ltb x 4 ≡ b → restType x ≡ carrier (cond b x (threeD + (x - 4)))
-    go true e =
-        let l = ltb-true x 4 e in
-        sym (carrier-is x (omega arith) ∙ in-header x l)
-    go false e =
-        let l = ltb-false x 4 e in
-        let q : threeD + (x - 4) - 1664 ≡ x = omega arith in
-        sym (carrier-is (threeD + (x - 4)) (omega arith) ∙ in-three (threeD + (x - 4)) (omega arith) (omega arith) ∙ ap restType q)
+rest-is x h =
+    cases (ltb x 4)
+    (λ e. rw e (let l = ltb-true x 4 e in sym (carrier-is x (omega arith) ∙ in-header x l)))
+    (λ e.
+    rw e (let l = ltb-false x 4 e in
+    let q : threeD + (x - 4) - 1664 ≡ x = omega arith in
+    sym (carrier-is (threeD + (x - 4)) (omega arith) ∙ in-three (threeD + (x - 4)) (omega arith) (omega arith) ∙ ap restType q)))
 
 pub sample-is : (p : ℕ) → 4 ≤ p → p < threeD → sampleIn ((p - 4) / 16) ≡ carrier p
 sample-is p l h = sym (carrier-is p (omega arith) ∙ in-samples p l h)
 
 -- a cell below 4 or from 1,668 on as a cell beside the samples
 pub header-rest : (p : ℕ) → p < 4 → restCell p ≡ p
-header-rest p h = rw (lt-ltb p 4 h)
+header-rest p h = rw lt-ltb
 
 pub three-rest : (p : ℕ) → threeD ≤ p → restCell (p - 1664) ≡ p
 three-rest p h = rw (le-ltb (p - 1664) 4 (omega arith)) (omega arith)
 
 -- no type above 36 is ever named
 pub carrier-small : (p : ℕ) → carrier p ≤ types
-carrier-small p = go (ltb p cells) refl
-  where
-    go : (b : Bool) → ltb p cells ≡ b → carrier p ≤ types
-    go true e = omega (arith, once p (ltb-true p cells e) .is-type)
-    go false e = omega (arith, carrier-none p (ltb-false p cells e))
+carrier-small p =
+    cases (ltb p cells)
+    (λ e. omega (arith, once p (ltb-true p cells e) .is-type))
+    (λ e. omega (arith, carrier-none p (ltb-false p cells e)))
 
 -- the runs of a type have exactly the cells that it carries
 carried-had : (t p : ℕ) → t < types → carrier p ≡ t → someHas (runsOf (rowOf t)) p ≡ true

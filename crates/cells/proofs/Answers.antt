@@ -17,17 +17,17 @@ module _ (code : ℕ) (sc c : List ℕ) where
   not-laid e = record { is = rw e; words = rw e; room = rw e }
 
   pub no-type : types ≤ typeIn code → FrameLaid code sc c placed.NoSuchPlace c
-  no-type h = not-laid (rw (le-ltb (typeIn code) types h))
+  no-type h = not-laid (rw le-ltb)
 
   pub no-science : typeIn code < types → (length sc ≡ scienceSize → ⊥) → FrameLaid code sc c placed.NoSuchPlace c
-  no-science h k = not-laid (rw (lt-ltb (typeIn code) types h, ne-eqb (length sc) scienceSize k))
+  no-science h k = not-laid (rw (lt-ltb, ne-eqb (length sc) scienceSize k))
 
   pub no-cells : typeIn code < types → length sc ≡ scienceSize → (length c ≡ cellsSize → ⊥) → FrameLaid code sc c placed.NoSuchPlace c
-  no-cells h k l = not-laid (rw (lt-ltb (typeIn code) types h, eq-eqb (length sc) scienceSize k, ne-eqb (length c) cellsSize l))
+  no-cells h k l = not-laid (rw (lt-ltb, eq-eqb (length sc) scienceSize k, ne-eqb (length c) cellsSize l))
 
   pub is-laid : typeIn code < types → length sc ≡ scienceSize → length c ≡ cellsSize → (c′ : List ℕ) → c′ ≡ laidFrame code sc c
       → FrameLaid code sc c placed.Laid c′
   unfolding placedSaid
   is-laid h k l c′ e =
-      let t : layable code sc c ≡ true = rw (lt-ltb (typeIn code) types h, eq-eqb (length sc) scienceSize k, eq-eqb (length c) cellsSize l) in
+      let t : layable code sc c ≡ true = rw (lt-ltb, eq-eqb (length sc) scienceSize k, eq-eqb (length c) cellsSize l) in
       record { is = rw t; words = rw t; room = rw t e }

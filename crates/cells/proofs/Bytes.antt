@@ -20,17 +20,17 @@ module _ (size marks n : ℕ) (c : List ℕ) (h p : ℕ) (held : Bool) (b : ℕ)
   there = askableOf size marks c h && ltb p n
 
   pub no-size : (length c ≡ size → ⊥) → RawIs there held b raw.NoSuchPlace
-  no-size k = not-there there held b (rw (ne-eqb (length c) size k))
+  no-size k = not-there there held b (rw ne-eqb)
 
   pub no-mark : length c ≡ size → 2 ^ marks ≤ h → RawIs there held b raw.NoSuchPlace
-  no-mark k m = not-there there held b (rw (eq-eqb (length c) size k, le-ltb h (2 ^ marks) m))
+  no-mark k m = not-there there held b (rw (eq-eqb, le-ltb h (2 ^ marks) m))
 
   pub no-place : length c ≡ size → h < 2 ^ marks → n ≤ p → RawIs there held b raw.NoSuchPlace
-  no-place k m l = not-there there held b (rw (eq-eqb (length c) size k, lt-ltb h (2 ^ marks) m, le-ltb p n l))
+  no-place k m l = not-there there held b (rw (eq-eqb, lt-ltb h (2 ^ marks) m, le-ltb p n l))
 
   module _ (k : length c ≡ size) (m : h < 2 ^ marks) (l : p < n) where
     is-there : there ≡ true
-    is-there = rw (eq-eqb (length c) size k, lt-ltb h (2 ^ marks) m, lt-ltb p n l)
+    is-there = rw (eq-eqb, lt-ltb h (2 ^ marks) m, lt-ltb p n l)
 
     pub not-held : held ≡ false → RawIs there held b raw.Absent
     unfolding rawOf rawSaid byteGiven

@@ -20,16 +20,16 @@ module _ (a b : Range) where
 
   pub summed : a .low + b .low < 2 ^ 64 → a .high + b .high < 2 ^ 64 → SumIs a b (Within (added a b))
   unfolding fits64
-  summed h k = is-sum (rw (lt-ltb (a .low + b .low) (2 ^ 64) h, lt-ltb (a .high + b .high) (2 ^ 64) k))
+  summed h k = is-sum (rw (lt-ltb, lt-ltb))
 
   pub low-past : 2 ^ 64 ≤ a .low + b .low → SumIs a b TooLarge
   unfolding fits64
-  low-past h = no-sum (rw (le-ltb (a .low + b .low) (2 ^ 64) h))
+  low-past h = no-sum (rw le-ltb)
 
   pub high-past : a .low + b .low < 2 ^ 64 → 2 ^ 64 ≤ a .high + b .high → SumIs a b TooLarge
   unfolding fits64
-  high-past h k = no-sum (rw (lt-ltb (a .low + b .low) (2 ^ 64) h, le-ltb (a .high + b .high) (2 ^ 64) k))
+  high-past h k = no-sum (rw (lt-ltb, le-ltb))
 
 pub sum-holds : (a b : Range) (x y : ℕ) → a .low ≤ x → x ≤ a .high → b .low ≤ y → y ≤ b .high
     → (added a b .low ≤ x + y) × (x + y ≤ added a b .high)
-sum-holds a b x y h k l m = (omega arith, omega arith)
+sum-holds a b x y h k l m = omega arith

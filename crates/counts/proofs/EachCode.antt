@@ -5,7 +5,7 @@ use mathlib.Core.Path.{_≡_, _∙_}
 use mathlib.Core.Bool.{Bool}
 use Prim.Native.Nat.{ℕ, suc, _+_, _*_, _-_, _/_, _%_, _^_, _<_, _≤_}
 use lib.Dec.{T, eqb, leb, eqb→eq, leb→le}
-use borrow.Author.Tests.{eq-eqb, ne-eqb}
+use borrow.Author.Tests.{ne-eqb}
 use Rattle.prelude.specs.Upto.{both}
 use Rattle.prelude.proofs.Upto.{both-left, both-right, upto-at}
 use Rattle.counts.specs.Codes.{codeLow, codeHigh, codedCounts}
@@ -55,20 +55,20 @@ module _ (c : ℕ) where
   -- an exponent of 0
   pub low-small : c / 16 ≡ 0 → c % 16 ≡ codeLow c
   unfolding codeLow
-  low-small e = rw (eq-eqb (c / 16) 0 e)
+  low-small e = cc
 
   pub high-small : c / 16 ≡ 0 → c % 16 ≡ codeHigh c
   unfolding codeHigh
-  high-small e = rw (eq-eqb (c / 16) 0 e)
+  high-small e = cc
 
   -- an exponent above it
   pub low-shifted : c < 256 → (c / 16 ≡ 0 → ⊥) → shifted 16 c % 2 ^ 64 ≡ codeLow c
   unfolding codeLow
-  low-shifted h n = code c h .low-kept ∙ rw (ne-eqb (c / 16) 0 n)
+  low-shifted h n = code c h .low-kept ∙ rw ne-eqb
 
   pub high-shifted : c < 256 → (c / 16 ≡ 0 → ⊥) → shifted 17 c % 2 ^ 64 - 1 ≡ codeHigh c
   unfolding codeHigh
-  high-shifted h n = rw (code c h .high-kept, ne-eqb (c / 16) 0 n)
+  high-shifted h n = rw (code c h .high-kept, ne-eqb)
 
   pub can-go-down : c < 256 → 1 ≤ shifted 17 c % 2 ^ 64
   can-go-down h = rw (code c h .high-kept) (code c h .high-some)

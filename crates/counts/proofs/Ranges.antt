@@ -15,16 +15,16 @@ use Rattle.counts.proofs.EachCode.{code}
 
 -- a later code's range starts past an earlier one's end
 past : (c k : ℕ) → c + k < 256 → codeHigh c < codeLow (suc (c + k))
-past c zero h = let e : c + 0 ≡ c = omega arith in subst (λ (n : ℕ). codeHigh c < codeLow (suc n)) (sym e) (omega (arith, code c (omega arith) .next))
+past c zero h = let e : c + 0 ≡ c = omega arith in subst (λ n. codeHigh c < codeLow (suc n)) (sym e) (omega (arith, code c (omega arith) .next))
 past c (suc k) h =
     let e : c + suc k ≡ suc (c + k) = omega arith in
     let n = code (suc (c + k)) (omega arith) in
-    subst (λ (n : ℕ). codeHigh c < codeLow (suc n)) (sym e) (omega (arith, past c k (omega arith), n .full, n .next))
+    subst (λ (n : ℕ). codeHigh c < codeLow (suc n)) (sym e) (omega (arith, past c k (omega arith), n .next))
 
 apart : (c d n : ℕ) → d < 256 → n ≤ codeHigh c → codeLow d ≤ n → c < d → ⊥
 apart c d n h u l k =
     let e : suc (c + (d - suc c)) ≡ d = omega arith in
-    let p : codeHigh c < codeLow d = subst (λ (x : ℕ). codeHigh c < codeLow x) e (past c (d - suc c) (omega arith)) in
+    let p = subst (λ (x : ℕ). codeHigh c < codeLow x) e (past c (d - suc c) (omega arith)) in
     omega arith
 
 once : (c d n : ℕ) → c < 256 → d < 256 → Lies c n → Lies d n → c ≡ d
@@ -57,7 +57,7 @@ found (suc c) n h l = go (leb (codeLow (suc c)) n) refl (found c n (omega arith)
   where
     go : (b : Bool) → leb (codeLow (suc c)) n ≡ b → (n < codeLow (suc c) → Found c n) → Found (suc c) n
     go true e r = rw e ((leb-true (codeLow (suc c)) n e, omega (arith, code (suc c) h .next)), omega arith)
-    go false e r = let q = r (leb-false (codeLow (suc c)) n e) in rw e (q .0, omega (arith, q .1))
+    go false e r = let q = r (leb-false (codeLow (suc c)) n e) in rw e (q .0, omega arith)
 
 pub one-code : (n : ℕ) → n < codedCounts → OneCode n
 one-code n h =
@@ -72,15 +72,15 @@ In x r = (r .low ≤ x) × (x ≤ r .high)
 
 pub divided-in : (x c : ℕ) (d : Divided) → In x (rangeOf c d) → Lies c (x / divisor d)
 unfolding divisor rangeOf
-divided-in x c By1 h = (omega (arith, h), omega (arith, h))
-divided-in x c By8 h = (omega (arith, h), omega (arith, h))
-divided-in x c By16 h = (omega (arith, h), omega (arith, h))
+divided-in x c By1 h = omega arith
+divided-in x c By8 h = omega arith
+divided-in x c By16 h = omega arith
 
 pub in-divided : (x c : ℕ) (d : Divided) → Lies c (x / divisor d) → In x (rangeOf c d)
 unfolding divisor rangeOf
-in-divided x c By1 h = (omega (arith, h), omega (arith, h))
-in-divided x c By8 h = (omega (arith, h), omega (arith, h))
-in-divided x c By16 h = (omega (arith, h), omega (arith, h))
+in-divided x c By1 h = omega arith
+in-divided x c By8 h = omega arith
+in-divided x c By16 h = omega arith
 
 -- the products are far below 64 bits
 pub record Fitting (n l h : ℕ) : Type 0 where
@@ -91,9 +91,9 @@ pub record Fitting (n l h : ℕ) : Type 0 where
 
 small : (d : Divided) (l h : ℕ) → l ≤ h → h < codedCounts → Fitting (divisor d) l h
 unfolding divisor
-small By1 l h k m = record { some = omega arith; few = omega arith; low = omega arith; high = omega arith }
-small By8 l h k m = record { some = omega arith; few = omega arith; low = omega arith; high = omega arith }
-small By16 l h k m = record { some = omega arith; few = omega arith; low = omega arith; high = omega arith }
+small By1 l h k m = omega arith
+small By8 l h k m = omega arith
+small By16 l h k m = omega arith
 
 module _ (c : ℕ) (d : Divided) (n l h : ℕ) (en : n ≡ divisor d) (el : l ≡ codeLow c) (eh : h ≡ codeHigh c) where
   pub fitting : c < 256 → Fitting n l h
@@ -101,4 +101,4 @@ module _ (c : ℕ) (d : Divided) (n l h : ℕ) (en : n ≡ divisor d) (el : l �
 
   pub scaled : record { low = n * l; high = n * h + (n - 1) } ≡ rangeOf c d
   unfolding rangeOf
-  scaled = rw (en, el, eh)
+  scaled = cc

@@ -22,7 +22,7 @@ use Rattle.electrons.specs.declared.scale.Scale.the-variants.{Known, Unk
 -- a byte whose scale is known
 pub counted-told : (w : Raw) (k : Scale) (code : ℕ) (d : Divided) (r : Range) → w ≡ raw.Byte code → k ≡ Known d → r ≡ rangeOf code d
     → Within r ≡ meaning w k
-counted-told w k code d r ew ek er = rw (ew, ek, er)
+counted-told w k code d r ew ek er = cc
 
 -- the answer from a byte that there is: whether it may be asked for, is held, needs no scale, or has it
 pub meant : (x y n h : Bool) (code : ℕ) (d : Divided)
@@ -49,10 +49,10 @@ module _ (a : Bool) (h : ℕ → Bool) (f : ℕ → ℕ) (n p : ℕ) (d : Divide
 
   asked-is : (t : Bool) → (t ≡ true → p < n) → CountIs (countAsked (a && t) (h p) (f p) d) (meaning (at (cond t p n)) (Known d))
   unfolding rawOf
-  asked-is true i = rw (lt-ltb p n (i refl)) (meant a (h p) true true (f p) d)
+  asked-is true i = rw lt-ltb (meant a (h p) true true (f p) d)
   asked-is false i = rw (le-ltb n n (omega arith)) (nowhere a (h p) true (rangeOf (f p) d) _ (Known d))
 
   -- a question's answer, from those that the callees give
   pub asked-told : (t : Bool) → (t ≡ true → p < n) → (q : ℕ) (w : Raw) (x : Count) → q ≡ cond t p n → w ≡ at q → x ≡ meaning w (Known d)
       → CountIs (countAsked (a && t) (h p) (f p) d) x
-  asked-told t i q w x eq ew ex = subst⁻¹ (λ (y : Count). CountIs (countAsked (a && t) (h p) (f p) d) y) (ex ∙ rw (ew, eq)) (asked-is t i)
+  asked-told t i q w x eq ew ex = subst⁻¹ (λ y. CountIs (countAsked (a && t) (h p) (f p) d) y) (ex ∙ rw (ew, eq)) (asked-is t i)

@@ -7,6 +7,7 @@ use Prim.Native.Nat.{ℕ, _/_, _<_}
 use native.Mathlib.Omega.{arith}
 use lib.ListN.{getD}
 use borrow.Author.Tests.{lt-ltb}
+use Rattle.prelude.proofs.Conds.{cases}
 use Rattle.counts.specs.Codes.{rangeOf}
 use Rattle.counts.specs.declared.codes.Divided.{Divided}
 use Rattle.counts.specs.declared.codes.Divided.the-variants.{By1, By8, By16}
@@ -53,23 +54,20 @@ module _ (c : List ℕ) (held : ℕ) where
 
   sample-is : (b s a : ℕ) → CountIs (sampleAsked c held b s a) (meaning (cellOf c held (samplePlace b s a)) (scaleOf c held b))
   unfolding rawOf
-  sample-is b s a = go (hasSample b s a) refl
-    where
-      go : (t : Bool) → hasSample b s a ≡ t
-          → CountIs (cellAsked (askable c held && t) (sampleCell b s a) (scaleKnown held b) (dividedBy c b))
-          (meaning (cellOf c held (cond t (sampleCell b s a) cells)) (scaleOf c held b))
-      go true e =
-          let p = sampleCell b s a in
-          let l : p < cells = omega (arith, sample-in b s a e) in
-          rw (lt-ltb p cells l) (meant (askable c held) (holdsCell held p) (not (scalable b)) (holdsCell held 1) (getD c p 0) (dividedBy c b))
-      go false e =
-          let p = sampleCell b s a in
-          nowhere (askable c held) (holdsCell held p) (scaleKnown held b) (rangeOf (getD c p 0) (dividedBy c b)) _ (scaleOf c held b)
+  sample-is b s a =
+      cases (hasSample b s a)
+      (λ e.
+      rw e (let p = sampleCell b s a in
+      let l : p < cells = omega (arith, sample-in b s a e) in
+      rw (lt-ltb p cells l) (meant (askable c held) (holdsCell held p) (not (scalable b)) (holdsCell held 1) (getD c p 0) (dividedBy c b))))
+      (λ e.
+      rw e (let p = sampleCell b s a in
+      nowhere (askable c held) (holdsCell held p) (scaleKnown held b) (rangeOf (getD c p 0) (dividedBy c b)) _ (scaleOf c held b)))
 
   -- the questions' answers, from those that the callees give
   pub sample-told : (b s a : ℕ) (p : ℕ) (w : Raw) (k : Scale) (x : Count) → p ≡ samplePlace b s a → w ≡ cellOf c held p → k ≡ scaleOf c held b
       → x ≡ meaning w k → CountIs (sampleAsked c held b s a) x
-  sample-told b s a p w k x ep ew ek ex = subst⁻¹ (λ (y : Count). CountIs (sampleAsked c held b s a) y) (ex ∙ rw (ew, ek, ep)) (sample-is b s a)
+  sample-told b s a p w k x ep ew ek ex = subst⁻¹ (λ y. CountIs (sampleAsked c held b s a) y) (ex ∙ rw (ew, ek, ep)) (sample-is b s a)
 
   pub three-told : (e b : ℕ) (p : ℕ) (w : Raw) (x : Count) → p ≡ threePlace e b → w ≡ cellOf c held p → x ≡ meaning w (Known By1)
       → CountIs (threeAsked c held e b) x
@@ -77,5 +75,5 @@ module _ (c : List ℕ) (held : ℕ) where
 
   pub header-told : (p : ℕ) (w : Raw) (x : Count) → p < 4 → w ≡ cellOf c held p → x ≡ meaning w (Known By16) → CountIs (headerAsked p c held) x
   header-told p w x h ew ex =
-      subst (λ (t : Bool). CountIs (cellAsked t p true By16) x) (and-true (askable c held))
+      subst (λ t. CountIs (cellAsked t p true By16) x) (and-true (askable c held))
       (asked-told (askable c held) (holdsCell held) (λ q. getD c q 0) cells p By16 true (λ t. omega arith) p w x refl ew ex)

@@ -23,26 +23,26 @@ module _ (bytes : List ℕ) (at : ℕ) where
         record {
           content = ap (take n) (drop-length bytes) ∙ take-nil n ∙ sym (ap (take size) (drop-of-length-le bytes h));
           block = refl;
-          offset = ap (λ (k : ℕ). k + from .1) (sym (min-eq-right h));
+          offset = ap (λ k. k + from .1) (sym (min-eq-right h));
         }
 
     pub cut-short : at ≤ length bytes → length bytes - at < size
         → CutIs bytes from at (take (length bytes - at) (drop at bytes)) (from .0, at + from .1)
     cut-short h l =
-        let e : length (drop at bytes) ≡ length bytes - at = length-drop at bytes in
+        let e = length-drop at bytes in
         record {
           content = take-all (length bytes - at) (drop at bytes) (omega arith) ∙ sym (take-all size (drop at bytes) (omega arith));
           block = refl;
-          offset = ap (λ (k : ℕ). k + from .1) (sym (min-eq-left h));
+          offset = ap (λ k. k + from .1) (sym (min-eq-left h));
         }
 
     pub cut-whole : at ≤ length bytes → CutIs bytes from at (take (at + size - at) (drop at bytes)) (from .0, at + from .1)
     cut-whole h =
         let e : at + size - at ≡ size = omega arith in
         record {
-          content = ap (λ (k : ℕ). take k (drop at bytes)) e;
+          content = rw e;
           block = refl;
-          offset = ap (λ (k : ℕ). k + from .1) (sym (min-eq-left h));
+          offset = ap (λ k. k + from .1) (sym (min-eq-left h));
         }
 
   -- a record ends with the bytes, or before

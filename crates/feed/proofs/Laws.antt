@@ -1,7 +1,7 @@
 -- What feeding comes to: where it rests, and that where the input is cut makes no difference.
 -- Assumes nothing.
 use mathlib.Core.Path.{_≡_, refl, sym, ap, _∙_}
-use mathlib.Core.Bool.{Bool, true, false, cond, true≢false}
+use mathlib.Core.Bool.{Bool, true, false, cond}
 use mathlib.Core.List.{List, _++_}
 use Prim.Native.Nat.{ℕ, zero, suc, _+_, _-_, _≤_}
 use native.Mathlib.Nat.{zero-add, suc-add, add-zero, add-assoc}
@@ -11,7 +11,7 @@ use lib.Seq.{drop-drop, take-append-le, drop-append-le, take-at}
 use borrow.Author.Tests.{le-leb, lt-leb}
 use Rattle.buffers.specs.Laying.{patch}
 use Rattle.record.specs.Layout.{size}
-use Rattle.feed.specs.Cutting.{recordAt, isWhole, RestIs}
+use Rattle.feed.specs.Cutting.{isWhole, RestIs}
 use Rattle.feed.specs.Feeding.{nothingFed, isQuiet, quiet, Desk, fedOne, feedUpTo, wholeFrom, feedAll}
 use Rattle.feed.proofs.Cuts.{record-room, whole-fits, whole-left}
 use Rattle.feed.proofs.Rests.{between, in-order}
@@ -36,7 +36,7 @@ module _ (bytes : List ℕ) where
           → quiet (cond b (feedUpTo n bytes (fedOne bytes d)) d .fed) ≡ true
           → isWhole (length bytes) (cond b (feedUpTo n bytes (fedOne bytes d)) d .fed .at) ≡ false
       go true b r k = r k
-      go false b r k = absurd (true≢false (sym k ∙ b))
+      go false b r k = cc
 
   -- where the last record had nothing to tell, no whole record is left
   pub feed-rests : (d : Desk) → quiet (feedAll bytes d .fed) ≡ true → isWhole (length bytes) (feedAll bytes d .fed .at) ≡ false
@@ -86,12 +86,12 @@ anew-moved d k = rw (add-zero k)
 pub feed-anew : (bytes : List ℕ) (d : Desk) → quiet (d .fed) ≡ true → isWhole (length bytes) (d .fed .at) ≡ true
     → feedAll bytes d ≡ feedAll bytes (anew d (d .fed .at))
 unfolding fedOne isQuiet
-feed-anew bytes d q w = feed-more bytes d w q ∙ sym (feed-more bytes (anew d (d .fed .at)) w refl)
+feed-anew bytes d q w = cc (feed-more bytes d w q, feed-more bytes (anew d (d .fed .at)) w refl)
 
 module _ (bytes : List ℕ) (k : ℕ) where
   next-moved : (d : Desk) → fedOne bytes (moved k d) ≡ moved k (fedOne (drop k bytes) d)
   unfolding fedOne
-  next-moved d = rw (drop-drop (d .fed .at) k bytes, add-assoc k (d .fed .at) (length (recordAt bytes (k + d .fed .at))))
+  next-moved d = rw (drop-drop, add-assoc)
 
   up-to-moved : (n : ℕ) (d : Desk) → feedUpTo n bytes (moved k d) ≡ moved k (feedUpTo n (drop k bytes) d)
   up-to-moved zero d = refl
@@ -108,7 +108,7 @@ module _ (bytes : List ℕ) (k : ℕ) where
   unfolding feedAll
   feed-moved d =
       let e : wholeFrom bytes (k + d .fed .at) ≡ wholeFrom (drop k bytes) (d .fed .at) = simp length-drop (omega arith) in
-      ap (λ (n : ℕ). feedUpTo n bytes (moved k d)) e ∙ up-to-moved (wholeFrom (drop k bytes) (d .fed .at)) d
+      ap (λ n. feedUpTo n bytes (moved k d)) e ∙ up-to-moved (wholeFrom (drop k bytes) (d .fed .at)) d
 
 module _ (xs ys : List ℕ) where
   next-front : (d : Desk) → isWhole (length xs) (d .fed .at) ≡ true → fedOne (xs ++ ys) d ≡ fedOne xs d
@@ -116,9 +116,9 @@ module _ (xs ys : List ℕ) where
   next-front d w =
       let at = d .fed .at in
       let h = whole-fits xs at w in
-      let e : drop at (xs ++ ys) ≡ drop at xs ++ ys = drop-append-le at xs ys (omega arith) in
-      let f : take size (drop at xs ++ ys) ≡ recordAt xs at = take-append-le size (drop at xs) ys (simp length-drop (omega arith)) in
-      let g : recordAt (xs ++ ys) at ≡ recordAt xs at = ap (take size) e ∙ f in
+      let e = drop-append-le at xs ys (omega arith) in
+      let f = take-append-le size (drop at xs) ys (simp length-drop (omega arith)) in
+      let g = ap (take size) e ∙ f in
       rw g
 
   up-to-front : (n : ℕ) (d : Desk) → n ≤ wholeFrom xs (d .fed .at) → feedAll (xs ++ ys) d ≡ feedAll (xs ++ ys) (feedUpTo n xs d)
@@ -127,8 +127,8 @@ module _ (xs ys : List ℕ) where
   up-to-front (suc n) d h =
       let at = d .fed .at in
       let w = some-left xs n at h in
-      let l : at + size ≤ length (xs ++ ys) = simp length-append (omega (arith, whole-fits xs at w)) in
-      let v : isWhole (length (xs ++ ys)) at ≡ true = le-leb (at + size) (length (xs ++ ys)) l in
+      let l : at + size ≤ length (xs ++ ys) = simp length-append (omega arith) in
+      let v = le-leb (at + size) (length (xs ++ ys)) l in
       let r = up-to-front n (fedOne xs d) (omega (arith, whole-left xs at w)) in
       go (quiet (d .fed)) refl (λ q. feed-more (xs ++ ys) d v q ∙ ap (feedAll (xs ++ ys)) (next-front d w) ∙ r)
     where
@@ -153,7 +153,7 @@ module _ (xs ys : List ℕ) where
       ∙ feed-anew (xs ++ ys) e q w
       ∙ ap (feedAll (xs ++ ys)) (anew-moved e p)
       ∙ feed-moved (xs ++ ys) p (anew e 0)
-      ∙ ap (λ (b : List ℕ). moved p (feedAll b (anew e 0))) (drop-append-le p xs ys (feed-within xs d h))
+      ∙ rw (drop-append-le p xs ys (feed-within xs d h))
 
 -- what came to the front are the bytes that stood between the places
 pub rest-in-front : (bytes : List ℕ) (from to : ℕ) (b : List ℕ) (n : ℕ) → from ≤ to → to ≤ length bytes → RestIs bytes from to b n

@@ -25,34 +25,34 @@ module _ (bytes : List ℕ) (from n : ℕ) (h : from + n ≤ length bytes) where
   still i l =
       let b = fronted bytes from n i in
       let e : 0 + i + from ≡ from + i = omega arith in
-      ap (λ (k : ℕ). getD b k 0) (sym e)
+      ap (λ k. getD b k 0) (sym e)
       ∙ sym (getD-drop (0 + i) b from 0)
-      ∙ ap (λ (x : List ℕ). getD x from 0) (drop-paste bytes 0 (take n (drop from bytes)) i (omega arith) (omega (arith, between)))
+      ∙ ap (λ x. getD x from 0) (drop-paste bytes 0 (take n (drop from bytes)) i (omega arith) (omega (arith, between)))
       ∙ getD-drop (0 + i) bytes from 0
-      ∙ ap (λ (k : ℕ). getD bytes k 0) e
+      ∙ ap (λ k. getD bytes k 0) e
       ∙ sym (getD-take n (drop from bytes) i 0 l ∙ getD-drop from bytes i 0)
 
   pub one-fronted : (i : ℕ) (b : List ℕ) → i < n → b ≡ fronted bytes from n i → set b i (getD b (from + i) 0) ≡ fronted bytes from n (i + 1)
   one-fronted i b l e =
       let z : 0 + i ≡ i = omega arith in
-      ap (λ (x : List ℕ). set x i (getD x (from + i) 0)) e
+      ap (λ x. set x i (getD x (from + i) 0)) e
       ∙ ap (set (fronted bytes from n i) i) (still i l)
-      ∙ ap (λ (k : ℕ). set (fronted bytes from n i) k (getD (take n (drop from bytes)) i 0)) (sym z)
+      ∙ ap (λ k. set (fronted bytes from n i) k (getD (take n (drop from bytes)) i 0)) (sym z)
       ∙ put-more bytes 0 (take n (drop from bytes)) i 0 (omega arith) (omega (arith, between))
 
 module _ (bytes : List ℕ) (from to : ℕ) where
   pub in-order : to ≤ length bytes → from ≤ to → inOrder bytes from to ≡ true
-  in-order h l = rw (le-leb to (length bytes) h, le-leb from to l)
+  in-order h l = rw (le-leb, le-leb)
 
   none-came : inOrder bytes from to ≡ false → RestIs bytes from to bytes 0
   none-came e = record { content = rw e; number = rw e }
 
   -- nothing comes where the places lie past the end
   pub no-end : length bytes < to → RestIs bytes from to bytes 0
-  no-end h = none-came (rw (lt-leb to (length bytes) h))
+  no-end h = none-came (rw lt-leb)
 
   pub no-start : to ≤ length bytes → to < from → RestIs bytes from to bytes 0
-  no-start h l = none-came (rw (le-leb to (length bytes) h, lt-leb from to l))
+  no-start h l = none-came (rw (le-leb, lt-leb))
 
   pub all-came : (i : ℕ) (b : List ℕ) → to ≤ length bytes → from ≤ to → i ≡ to - from → b ≡ fronted bytes from (to - from) i
       → RestIs bytes from to b (to - from)

@@ -41,7 +41,7 @@ module _ (bytes : List ℕ) where
 
   on : (n : ℕ) (d : Desk) → toldIn n bytes (anew d (d .fed .at)) ≡ toldIn n bytes d
   on zero d = refl
-  on (suc n) d = ap (λ (e : Desk). cond (quiet (e .fed)) (toldIn n bytes e) (e .fed ∷ toldIn n bytes e)) (same-next d)
+  on (suc n) d = rw (same-next d)
 
   -- a desk begun anew where the last record ended has the same still to tell
   pub tell-on : (d : Desk) → toldAll bytes (anew d (d .fed .at)) ≡ toldAll bytes d

@@ -36,11 +36,11 @@ module _ (bytes : List ℕ) where
   pub feed-more : (d : Desk) → isWhole (length bytes) (d .fed .at) ≡ true → quiet (d .fed) ≡ true
       → feedAll bytes d ≡ feedAll bytes (fedOne bytes d)
   unfolding feedAll fedOne
-  feed-more d w q = ap (λ (k : ℕ). feedUpTo k bytes d) (whole-left bytes (d .fed .at) w ∙ add-one _) ∙ rw q
+  feed-more d w q = ap (λ k. feedUpTo k bytes d) (whole-left bytes (d .fed .at) w ∙ add-one _) ∙ rw q
 
   pub feed-none : (d : Desk) → isWhole (length bytes) (d .fed .at) ≡ false → feedAll bytes d ≡ d
   unfolding feedAll
-  feed-none d w = ap (λ (k : ℕ). feedUpTo k bytes d) (none-left bytes (d .fed .at) w)
+  feed-none d w = rw none-left
 
   pub feed-loud : (d : Desk) → quiet (d .fed) ≡ false → feedAll bytes d ≡ d
   unfolding feedAll
@@ -55,7 +55,7 @@ module _ (bytes : List ℕ) where
 
     pub fewer : wholeFrom bytes (x .at) < wholeFrom bytes (f .at)
     unfolding fedOne
-    fewer = omega (arith, whole-left bytes (f .at) w, ap (λ (y : Fed). y .at) (is .result))
+    fewer = omega (arith, whole-left bytes (f .at) w, ap (λ y. y .at) (is .result))
 
   module _ {f : Fed} {b : Buffers} (d : Desk) (e : feedAll bytes d ≡ feedAll bytes (desk f b)) where
     ended : feedAll bytes (desk f b) ≡ desk f b → DeskIs (feedAll bytes d) f b

@@ -1,13 +1,12 @@
 -- The law of each kind of part.
 -- Assumes nothing.
-use mathlib.Core.Bool.{Bool, true, false, cond, false≢true}
+use mathlib.Core.Bool.{Bool, true, false, cond}
 use mathlib.Core.List.{List, [], _∷_}
-use mathlib.Core.Option.{none, some, Option·some-injective, Option·some-ne-none}
+use mathlib.Core.Option.{none, some, Option·some-injective}
 use mathlib.Core.Path.{_≡_, refl, sym, ap, subst, _∙_}
 use Prim.Native.Nat.{ℕ, zero, suc, _+_, _*_, _^_, _<_}
 use native.Mathlib.Omega.{arith}
 use lib.Dec.{eqb, ltb}
-use lib.IntN.{ℤ}
 use lib.ListN.{length, getD}
 use lib.Pow.{areBytes}
 use borrow.Author.Tests.{eqb-true, eq-eqb, ltb-true, le-leb}
@@ -40,7 +39,7 @@ word-law n = record {
   sized = λ x h. length-bytes most n x;
   bytes = λ x h. are-bytes most n x;
   back = λ x h. ap some (word-back n x h);
-  held = λ b x l h e. subst (λ (y : ℕ). y < 2 ^ (8 * n)) (Option·some-injective (wordIn b 0 n) x e) (small-word b 0 n);
+  held = λ b x l h e. rw (Option·some-injective (wordIn b 0 n) x e) at (small-word b 0 n);
   forth = λ b x l h e. ap (bytesOf most n) (sym (Option·some-injective (wordIn b 0 n) x e)) ∙ word-forth b n l h;
 }
 
@@ -51,7 +50,7 @@ signed16-law = record {
   back = λ z h. ap some (ap signedOf (word-back 2 (unsignedOf z) (unsigned-small z h)) ∙ signed-back z h);
   held = λ b z l h e. subst InSixteen (Option·some-injective (signedIn b 0) z e) (signed-fits (wordIn b 0 2) (small-word b 0 2));
   forth = λ b z l h e.
-      ap (λ (y : ℤ). bytesOf most 2 (unsignedOf y)) (sym (Option·some-injective (signedIn b 0) z e))
+      ap (λ y. bytesOf most 2 (unsignedOf y)) (sym (Option·some-injective (signedIn b 0) z e))
       ∙ ap (bytesOf most 2) (signed-forth (wordIn b 0 2) (small-word b 0 2))
       ∙ word-forth b 2 l h;
 }
@@ -61,16 +60,16 @@ one-byte x h zero = h
 one-byte x h (suc i) = omega arith
 
 byte-forth : (b : List ℕ) (x : ℕ) → length b ≡ 1 → some (getD b 0 0) ≡ some x → x ∷ [] ≡ b
-byte-forth [] x l e = absurd (omega arith)
-byte-forth (y ∷ []) x l e = ap (λ (z : ℕ). z ∷ []) (sym (Option·some-injective y x e))
-byte-forth (y ∷ (z ∷ b)) x l e = absurd (omega arith)
+byte-forth [] x l e = cc
+byte-forth (y ∷ []) x l e = cc
+byte-forth (y ∷ (z ∷ b)) x l e = cc
 
 pub byte-law : PartLaw byte
 byte-law = record {
   sized = λ x h. refl;
   bytes = one-byte;
   back = λ x h. refl;
-  held = λ b x l h e. subst (λ (y : ℕ). y < 256) (Option·some-injective (getD b 0 0) x e) (h 0);
+  held = λ b x l h e. rw (Option·some-injective (getD b 0 0) x e) at (h 0);
   forth = λ b x l h e. byte-forth b x l e;
 }
 
@@ -88,13 +87,13 @@ pair-back o v h =
 pair-forth : (o : Order) (b : List ℕ) (v : ℕ × ℕ) → length b ≡ 3 → Bytes b → pairOf o .read b ≡ some v → pairOf o .write v ≡ b
 pair-forth o b v l h e =
     let d = Option·some-injective (twelveIn o b 0, twelveIn o b 1) v e in
-    let x : twelve o b 0 ≡ v .0 = sym (exact-pair o b 0 (omega arith) l) ∙ ap (λ (u : ℕ × ℕ). u .0) d in
-    let y : twelve o b 1 ≡ v .1 = sym (exact-pair o b 1 (omega arith) l) ∙ ap (λ (u : ℕ × ℕ). u .1) d in
+    let x = sym (exact-pair o b 0 (omega arith) l) ∙ ap (λ u. u .0) d in
+    let y = sym (exact-pair o b 1 (omega arith) l) ∙ ap (λ u. u .1) d in
     pairs.pair-forth o (v .0) (v .1) b l h x y
 
 pair-held : (o : Order) (b : List ℕ) (v : ℕ × ℕ) → length b ≡ 3 → pairOf o .read b ≡ some v → pairOf o .Holds v
 pair-held o b v l e =
-    let small : (k : ℕ) → k < 2 → twelveIn o b k < 4096 = λ k h. rw (exact-pair o b k h l) (below o b (12 * k) 12) in
+    let small : (k : ℕ) → k < 2 → twelveIn o b k < 4096 = λ k h. rw exact-pair (below o b (12 * k) 12) in
     subst (pairOf o .Holds) (Option·some-injective (twelveIn o b 0, twelveIn o b 1) v e) (small 0 (omega arith), small 1 (omega arith))
 
 pub pair-law : (o : Order) → PartLaw (pairOf o)
@@ -109,18 +108,18 @@ pair-law o = record {
 same-self : (m : List ℕ) → same m m ≡ true
 unfolding same
 same-self [] = refl
-same-self (x ∷ m) = rw (eq-eqb x x refl) (same-self m)
+same-self (x ∷ m) = rw eq-eqb (same-self m)
 
 same-is : (b m : List ℕ) → same b m ≡ true → m ≡ b
 unfolding same
 same-is [] [] e = refl
-same-is [] (y ∷ m) e = absurd (false≢true e)
-same-is (x ∷ b) [] e = absurd (false≢true e)
+same-is [] (y ∷ m) e = cc
+same-is (x ∷ b) [] e = cc
 same-is (x ∷ b) (y ∷ m) e = let d = two (eqb x y) (same b m) e in rw (eqb-true x y (d .0), same-is b m (d .1))
 
 fixed-forth : (t : Bool) (b m : List ℕ) (v : Unit {0}) → same b m ≡ t → cond t (some tt) none ≡ some v → m ≡ b
 fixed-forth true b m v s e = same-is b m s
-fixed-forth false b m v s e = absurd (Option·some-ne-none v (sym e))
+fixed-forth false b m v s e = cc
 
 mark-bytes : (m : List ℕ) → areBytes m ≡ true → Bytes m
 mark-bytes [] t i = omega arith

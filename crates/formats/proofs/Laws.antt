@@ -4,13 +4,14 @@ use mathlib.Core.Bool.{Bool, true, false, cond}
 use mathlib.Core.List.{List, [], _∷_, _++_}
 use mathlib.Core.Option.{Option, none, some, Option·some-injective, Option·some-ne-none}
 use mathlib.Core.Path.{_≡_, refl, sym, ap, subst, _∙_}
-use Prim.Native.Nat.{ℕ, zero, suc, _+_, _-_, _*_, _<_}
+use Prim.Native.Nat.{ℕ, zero, suc, _+_, _-_, _*_}
 use native.Mathlib.Nat.{add-comm, zero-mul, suc-mul}
 use native.Mathlib.Omega.{arith}
 use lib.Dec.{eqb, ltb}
-use lib.ListN.{length, getD, take, drop, length-append, length-drop, take-append-drop, List·getD-append}
+use lib.ListN.{length, take, drop, length-append, length-drop, take-append-drop, List·getD-append}
 use lib.Seq.{take-at, drop-at, length-take-le, getD-drop, getD-append-add}
 use borrow.Author.Tests.{eqb-true, ltb-true, ltb-false}
+use Rattle.prelude.proofs.Conds.{cases}
 use Rattle.prelude.specs.Every.{Every}
 use Rattle.bits.specs.Twelve.{Bytes}
 use Rattle.bits.proofs.BytesOf.{bytes-part}
@@ -25,17 +26,16 @@ determined {p = p} P = record {
 
 -- bytes joined, and the last of them
 bytes-append : (a b : List ℕ) → Bytes a → Bytes b → Bytes (a ++ b)
-bytes-append a b h k i = go (ltb i (length a)) refl
-  where
-    go : (t : Bool) → ltb i (length a) ≡ t → getD (a ++ b) i 0 < 256
-    go true t = rw (List·getD-append a b 0 i (ltb-true i (length a) t)) (h i)
-    go false t =
-        let r = i - length a in
-        let e : i ≡ length a + r = omega (arith, ltb-false i (length a) t) in
-        rw (e, getD-append-add a b r 0) (k r)
+bytes-append a b h k i =
+    cases (ltb i (length a))
+    (λ t. rw (List·getD-append a b 0 i (ltb-true i (length a) t)) (h i))
+    (λ t.
+    let r = i - length a in
+    let e : i ≡ length a + r = omega (arith, ltb-false i (length a) t) in
+    rw (e, getD-append-add) (k r))
 
 bytes-drop : (b : List ℕ) (n : ℕ) → Bytes b → Bytes (drop n b)
-bytes-drop b n h i = rw (getD-drop n b i 0) (h (n + i))
+bytes-drop b n h i = rw getD-drop (h (n + i))
 
 -- two are there where they are together
 together-some : {A B C : Type 0} (f : A → B → C) (x : Option A) (y : Option B) (c : C) → ofBoth f x y ≡ some c
@@ -51,10 +51,10 @@ module _ {A B : Type 0} {p : Part A} {q : Part B} (P : PartLaw p) (Q : PartLaw q
     s = p .size
 
     first : p .read (take s b) ≡ some (v .0)
-    first = let d = together-some pair (p .read (take s b)) (q .read (drop s b)) v e in d .2 ∙ ap (λ (u : A × B). some (u .0)) (d .4)
+    first = let d = together-some pair (p .read (take s b)) (q .read (drop s b)) v e in d .2 ∙ ap (λ u. some (u .0)) (d .4)
 
     second : q .read (drop s b) ≡ some (v .1)
-    second = let d = together-some pair (p .read (take s b)) (q .read (drop s b)) v e in d .3 ∙ ap (λ (u : A × B). some (u .1)) (d .4)
+    second = let d = together-some pair (p .read (take s b)) (q .read (drop s b)) v e in d .3 ∙ ap (λ u. some (u .1)) (d .4)
 
     length-first : length (take s b) ≡ s
     length-first = length-take-le s b (omega arith)
@@ -79,7 +79,7 @@ module _ {A B : Type 0} {p : Part A} {q : Part B} (P : PartLaw p) (Q : PartLaw q
       let a = p .write (v .0) in
       let b = q .write (v .1) in
       let l = P .sized (v .0) (h .0) in
-      rw (take-at a b (p .size) l, drop-at a b (p .size) l, P .back (v .0) (h .0), Q .back (v .1) (h .1))
+      rw (take-at, drop-at, P .back (v .0) (h .0), Q .back (v .1) (h .1))
 
   pub then-law : PartLaw (p then q)
   then-law = record {
@@ -93,14 +93,14 @@ module _ {A B : Type 0} {p : Part A} {q : Part B} (P : PartLaw p) (Q : PartLaw q
 module _ {A : Type 0} {p : Part A} (P : PartLaw p) where
   pub all-sized : (xs : List A) → Every (p .Holds) xs → length (writeAll p xs) ≡ length xs * p .size
   unfolding writeAll Every
-  all-sized [] h = sym (zero-mul (p .size))
+  all-sized [] h = omega arith
   all-sized (x ∷ xs) h =
       length-append (p .write x) (writeAll p xs)
-      ∙ rw (P .sized x (h .0), all-sized xs (h .1), suc-mul (length xs) (p .size)) (add-comm (p .size) (length xs * p .size))
+      ∙ rw (P .sized x (h .0), all-sized xs (h .1), suc-mul) (add-comm (p .size) (length xs * p .size))
 
   all-bytes : (xs : List A) → Every (p .Holds) xs → Bytes (writeAll p xs)
   unfolding writeAll Every
-  all-bytes [] h = λ i. omega arith
+  all-bytes [] h = omega arith
   all-bytes (x ∷ xs) h = bytes-append (p .write x) (writeAll p xs) (P .bytes x (h .0)) (all-bytes xs (h .1))
 
   all-back : (xs : List A) → Every (p .Holds) xs → readAll p (length xs) (writeAll p xs) ≡ some xs
@@ -109,11 +109,11 @@ module _ {A : Type 0} {p : Part A} (P : PartLaw p) where
   all-back (x ∷ xs) h =
       let l = P .sized x (h .0) in
       let w = writeAll p xs in
-      rw (take-at (p .write x) w (p .size) l, drop-at (p .write x) w (p .size) l, P .back x (h .0), all-back xs (h .1))
+      rw (take-at, drop-at, P .back x (h .0), all-back xs (h .1))
 
   empty : (b : List ℕ) → length b ≡ 0 → [] ≡ b
   empty [] l = refl
-  empty (x ∷ b) l = absurd (omega arith)
+  empty (x ∷ b) l = cc
 
   -- what n elements read of bytes are: so many, each of them held, and written as the bytes
   abbrev Read : ℕ → List ℕ → List A → Type 0
@@ -125,8 +125,8 @@ module _ {A : Type 0} {p : Part A} (P : PartLaw p) where
   all-read (suc n) b xs l h e =
       let s = p .size in
       let d = together-some _∷_ (p .read (take s b)) (readAll p n (drop s b)) xs e in
-      let m : length b ≡ n * s + s = l ∙ suc-mul n s in
-      let i : length (take s b) ≡ s = length-take-le s b (omega arith) in
+      let m = l ∙ suc-mul n s in
+      let i = length-take-le s b (omega arith) in
       let j : length (drop s b) ≡ n * s = length-drop s b ∙ omega arith in
       let c = bytes-part b 0 s h in
       let r = all-read n (drop s b) (d .1) j (bytes-drop b s h) (d .3) in
@@ -135,9 +135,9 @@ module _ {A : Type 0} {p : Part A} (P : PartLaw p) where
 
   pub times-law : (n : ℕ) → PartLaw (n times p)
   times-law n = record {
-    sized = λ xs h. all-sized xs (h .1) ∙ ap (λ (k : ℕ). k * p .size) (h .0);
+    sized = λ xs h. all-sized xs (h .1) ∙ rw (h .0);
     bytes = λ xs h. all-bytes xs (h .1);
-    back = λ xs h. subst (λ (k : ℕ). readAll p k (writeAll p xs) ≡ some xs) (h .0) (all-back xs (h .1));
+    back = λ xs h. rw (h .0) at (all-back xs (h .1));
     held = λ b xs l h e. all-read n b xs l h e .0;
     forth = λ b xs l h e. all-read n b xs l h e .1;
   }
@@ -161,7 +161,7 @@ module _ {A : Type 0} {p : Part A} (P : PartLaw p) where
     seen-read : (b : List ℕ) (v : B) → length b ≡ p .size → Bytes b → shown to good (p .read b) ≡ some v → (good v ≡ true) × (p .read b ≡ some (from v))
     seen-read b v l h e =
         let d = shown-some to good (p .read b) v e in
-        let f : d .0 ≡ from v = sym (one (d .0) (P .held b (d .0) l h (d .1)) (d .3)) ∙ ap from (d .2) in
+        let f = sym (one (d .0) (P .held b (d .0) l h (d .1)) (d .3)) ∙ ap from (d .2) in
         (ap good (sym (d .2)) ∙ d .3, d .1 ∙ ap some f)
 
     pub seen-law : PartLaw (seen to from good p)
@@ -180,13 +180,13 @@ module _ {A : Type 0} {p : Part A} (P : PartLaw p) where
 pub twos-same : {A : Type 0} (vs : List (A × A)) → byTwos (oneByOne vs) ≡ vs
 unfolding byTwos oneByOne
 twos-same [] = refl
-twos-same {A = A} (v ∷ vs) = ap (λ (us : List (A × A)). v ∷ us) (twos-same vs)
+twos-same {A = A} (v ∷ vs) = rw (twos-same vs)
 
 ones-same : {A : Type 0} (n : ℕ) (xs : List A) → length xs ≡ 2 * n → oneByOne (byTwos xs) ≡ xs
 unfolding byTwos oneByOne
 ones-same n [] e = refl
 ones-same n (x ∷ []) e = absurd (omega arith)
-ones-same {A = A} n (x ∷ (y ∷ xs)) e = ap (λ (ys : List A). x ∷ (y ∷ ys)) (ones-same (n - 1) xs (omega arith))
+ones-same {A = A} n (x ∷ (y ∷ xs)) e = rw (ones-same (n - 1) xs (omega arith))
 
 pub twos-law : {A : Type 0} {p : Part (A × A)} → PartLaw p → (n : ℕ) → PartLaw (n twos p)
 twos-law P n =

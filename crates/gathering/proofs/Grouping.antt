@@ -1,6 +1,6 @@
 -- What a gatherer hands out is a cutting of the items that it takes in, in order, each once.
 -- Assumes nothing.
-use mathlib.Core.Path.{_≡_, refl, ap, subst, _∙_}
+use mathlib.Core.Path.{_≡_, refl, subst, _∙_}
 use mathlib.Core.Bool.{Bool, true, false}
 use mathlib.Core.List.{List, [], _∷_, _++_, map, append-nil, append-assoc}
 use Prim.Native.Nat.{ℕ, _+_, _<_}
@@ -14,14 +14,14 @@ use Rattle.gathering.specs.Gathering.{Gatherer, gather, takenBy, Grouped
 -- items taken in as they are
 pub map-same : {A : Type 0} (xs : List A) → map (λ x. x) xs ≡ xs
 map-same [] = refl
-map-same (x ∷ xs) = ap (λ (ys : List _). x ∷ ys) (map-same xs)
+map-same (x ∷ xs) = rw (map-same xs)
 
 -- what neighbours share, all share
 pub all-share : {J : Type 0} (key : J → ℕ) (R : J → J → Type 0) → ((p f : J) → R p f → key f ≡ key p) → (fs : List J) (p : J)
     → Linked R p fs → Every (λ f. key f ≡ key p) (p ∷ fs)
 unfolding Linked Every
 all-share key R same [] p h = (refl, tt)
-all-share key R same (f ∷ fs) p h = (refl, subst (λ (n : ℕ). Every (λ x. key x ≡ n) (f ∷ fs)) (same p f (h .0)) (all-share key R same fs f (h .1)))
+all-share key R same (f ∷ fs) p h = (refl, subst (λ n. Every (λ x. key x ≡ n) (f ∷ fs)) (same p f (h .0)) (all-share key R same fs f (h .1)))
 
 -- where a key rises from each to the next, it rises throughout
 pub rising-links : {J : Type 0} (key : J → ℕ) (R : J → J → Type 0) → ((p f : J) → R p f → key p < key f) → (fs : List J) (p : J)
@@ -43,7 +43,7 @@ module _ {J O : Type 0} (R S : J → J → Type 0) (out : List J → O) where
 
   module _ (h : J) (t : List J) (p : J) where
     told-end : Told h t p [] (out (h ∷ t) ∷ [])
-    unfolding Linked final Across Cut flat
+    unfolding Linked Across Cut flat
     told-end = record { tail = []; rest = []; is = rw append-nil refl; whole = refl; linked = tt; across = tt; cut = tt }
 
     module _ (y : J) (ys : List J) (handed : List O) where
@@ -52,8 +52,8 @@ module _ {J O : Type 0} (R S : J → J → Type 0) (out : List J → O) where
       told-joined n r = record {
         tail = y ∷ r .tail;
         rest = r .rest;
-        is = r .is ∙ ap (λ (g : List J). out (h ∷ g) ∷ map out (r .rest)) (append-assoc t (y ∷ []) (r .tail));
-        whole = ap (λ (g : List J). y ∷ g) (r .whole);
+        is = r .is ∙ rw append-assoc;
+        whole = rw (r .whole);
         linked = (n, r .linked);
         across = r .across;
         cut = r .cut;
@@ -64,8 +64,8 @@ module _ {J O : Type 0} (R S : J → J → Type 0) (out : List J → O) where
       told-opened n r = record {
         tail = [];
         rest = (y ∷ r .tail) ∷ r .rest;
-        is = rw append-nil (ap (λ (z : List O). out (h ∷ t) ∷ z) (r .is));
-        whole = ap (λ (g : List J). y ∷ g) (r .whole);
+        is = rw append-nil (rw (r .is));
+        whole = rw (r .whole);
         linked = tt;
         across = n;
         cut = (r .linked, r .across, r .cut);
@@ -80,7 +80,7 @@ module _ {J O : Type 0} (R S : J → J → Type 0) (out : List J → O) where
   grouped y ys handed r = record {
     groups = (y ∷ r .tail) ∷ r .rest;
     is = r .is;
-    whole = ap (λ (g : List J). y ∷ g) (r .whole);
+    whole = rw (r .whole);
     cut = (r .linked, r .across, r .cut);
   }
 

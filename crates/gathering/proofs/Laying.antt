@@ -13,12 +13,12 @@ module _ {I : Type 0} (key : I → ℕ) where
   pub rising-down : (xs : List I) (low low′ : ℕ) → low ≤ low′ → Rising key low′ xs → Rising key low xs
   unfolding Rising
   rising-down [] low low′ l r = tt
-  rising-down (x ∷ xs) low low′ l r = (omega (arith, r .0), r .1)
+  rising-down (x ∷ xs) low low′ l r = (omega arith, r .1)
 
   pub free-below : (xs : List I) (low u : ℕ) → u < low → Rising key low xs → Unused key u xs
   unfolding Rising Every
   free-below [] low u h r = tt
-  free-below (x ∷ xs) low u h r = (λ e. omega (arith, r .0), free-below xs (key x + 1) u (omega (arith, r .0)) (r .1))
+  free-below (x ∷ xs) low u h r = (λ e. omega arith, free-below xs (key x + 1) u (omega arith) (r .1))
 
 -- one more put
 pub put-more : {I B : Type 0} (put : I → B → B) (g : List I) (b : B) (x : I) → putAll put b (g ++ (x ∷ [])) ≡ put x (putAll put b g)
@@ -31,7 +31,7 @@ pub put-part : {I B C : Type 0} (part : B → C) (put : I → B → B) (putPart 
     → (xs : List I) (b : B) → part (putAll put b xs) ≡ putAll putPart (part b) xs
 unfolding putAll
 put-part part put putPart is [] b = refl
-put-part part put putPart is (x ∷ xs) b = subst (λ c. part (putAll put (put x b) xs) ≡ putAll putPart c xs) (is x b) (put-part part put putPart is xs (put x b))
+put-part part put putPart is (x ∷ xs) b = rw (is x b) at (put-part part put putPart is xs (put x b))
 
 module _ {I B C : Type 0} {key : I → ℕ} {put : I → B → B} {look : B → ℕ → C} {value : I → C}
     {Good : I → Type 0} {Key : ℕ → Type 0} {Fit : ℕ → B → Type 0} (t : Table key put look value Good Key Fit) where
@@ -41,7 +41,7 @@ module _ {I B C : Type 0} {key : I → ℕ} {put : I → B → B} {look : B → 
   unfolding putAll Every Rising
   all-fit [] b low n wider l u g r f = wider b low l f
   all-fit (x ∷ xs) b low n wider l u g r f =
-      all-fit xs (put x b) (key x + 1) n wider (omega (arith, u .0)) (u .1) (g .1) (r .1) (t .fits x b low (g .0) (r .0) f)
+      all-fit xs (put x b) (key x + 1) n wider (omega arith) (u .1) (g .1) (r .1) (t .fits x b low (g .0) (r .0) f)
 
   -- a key that no item has keeps what stood there
   pub stays : (xs : List I) (b : B) (low u : ℕ) → Every Good xs → Rising key low xs → Fit low b → Key u → Unused key u xs
@@ -60,5 +60,5 @@ module _ {I B C : Type 0} {key : I → ℕ} {put : I → B → B} {look : B → 
   stand (y ∷ xs) b low g r f x (inl e) =
       let free = free-below key xs (key y + 1) (key y) (omega arith) (r .1) in
       let own = stays xs (put y b) (key y + 1) (key y) (g .1) (r .1) (t .fits y b low (g .0) (r .0) f) (t .keyed y (g .0)) free in
-      subst (λ (z : I). look (putAll put (put y b) xs) (key z) ≡ value z) e (own ∙ t .own y b low (g .0) (r .0) f)
+      subst (λ z. look (putAll put (put y b) xs) (key z) ≡ value z) e (own ∙ t .own y b low (g .0) (r .0) f)
   stand (y ∷ xs) b low g r f x (inr i) = stand xs (put y b) (key y + 1) (g .1) (r .1) (t .fits y b low (g .0) (r .0) f) x i

@@ -6,7 +6,7 @@ use mathlib.Core.List.{List, [], _∷_}
 use Prim.Native.Nat.{ℕ, _+_, _^_, _<_, _≤_}
 use native.Mathlib.Nat.{zero-add}
 use native.Mathlib.Omega.{arith}
-use lib.Count.{ones, onesIn}
+use lib.Count.{ones}
 use lib.ListN.{length}
 use lib.Pow.{pow-mono, pow-pos}
 use Rattle.prelude.specs.Marks.{bitSet, marked}
@@ -56,7 +56,7 @@ module _ {I : Type 0} (key : I → ℕ) where
       omega (arith, count-from xs (key x + 1) (marked m (key x)) (marked-below m (key x) f) (r .1), ones-marked m (key x) f)
 
   pub marks-count : (xs : List I) (low : ℕ) → Rising key low xs → ones (marksFrom key 0 xs) ≡ length xs
-  unfolding ones onesIn
+  unfolding ones
   marks-count xs low r = count-from xs low 0 (pow-pos low) r ∙ zero-add (length xs)
 
   -- with one in it, some are set

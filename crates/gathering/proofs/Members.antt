@@ -1,6 +1,6 @@
 -- Elements of lists: of a cutting in which some key rises, each stands in exactly one part.
 -- Assumes nothing.
-use mathlib.Core.Path.{_≡_, refl, sym, ap, subst, subst⁻¹, _∙_}
+use mathlib.Core.Path.{_≡_, refl, ap, subst, subst⁻¹}
 use mathlib.Core.Bool.{Bool, true, false, cond}
 use mathlib.Core.List.{List, [], _∷_, _++_}
 use mathlib.Core.Logic.{_⊎_, inl, inr, ⊎-elim}
@@ -18,7 +18,7 @@ module _ {I : Type 0} where
 
   -- what is so of two, is so of those that they are
   pub of-both : (T : I → I → Type 0) (x y p f : I) → (x ≡ p) × (y ≡ f) → T x y → T p f
-  of-both T x y p f e t = subst (λ (z : I). T z f) (e .0) (subst (T x) (e .1) t)
+  of-both T x y p f e t = rw (e .0) at (rw (e .1) at t)
 
   -- what each has, an element has; and what each element has, each has
   pub every-in : (P : I → Type 0) (xs : List I) (f : I) → Every P xs → In f xs → P f
@@ -36,7 +36,7 @@ module _ {I : Type 0} where
   pub some-in : (P : I → Type 0) (xs : List I) (f : I) → In f xs → P f → Some P xs
   unfolding Some
   some-in P [] f i p = absurd i
-  some-in P (x ∷ xs) f (inl e) p = inl (subst P (sym e) p)
+  some-in P (x ∷ xs) f (inl e) p = inl (rw e p)
   some-in P (x ∷ xs) f (inr i) p = inr (some-in P xs f i p)
 
   pub in-some : (P : I → Type 0) (C : Type 0) (xs : List I) → Some P xs → ((f : I) → In f xs → P f → C) → C
@@ -61,7 +61,7 @@ module _ {I : Type 0} where
   unfolding Some
   in-either [] h f i = inr i
   in-either (x ∷ g) h f (inl e) = inl (inl e)
-  in-either (x ∷ g) h f (inr i) = ⊎-elim (λ (j : In f g). inl (inr j)) (λ (j : In f h). inr j) (in-either g h f i)
+  in-either (x ∷ g) h f (inr i) = ⊎-elim (λ j. inl (inr j)) (λ j. inr j) (in-either g h f i)
 
   -- among those that pass a test
   pub those-in : (t : I → Bool) (xs : List I) (f : I) → In f (those t xs) → In f xs × (t f ≡ true)
@@ -71,14 +71,14 @@ module _ {I : Type 0} where
     where
       go : (b : Bool) → t x ≡ b → In f (cond b (x ∷ those t xs) (those t xs)) → (In f (those t xs) → In f xs × (t f ≡ true))
           → In f (x ∷ xs) × (t f ≡ true)
-      go true r (inl e) ih = (inl e, subst (λ (y : I). t y ≡ true) e r)
+      go true r (inl e) ih = (inl e, rw e at r)
       go true r (inr j) ih = let q = ih j in (inr (q .0), q .1)
       go false r j ih = let q = ih j in (inr (q .0), q .1)
 
   pub in-those : (t : I → Bool) (xs : List I) (f : I) → In f xs → t f ≡ true → In f (those t xs)
   unfolding Some those
   in-those t [] f i r = absurd i
-  in-those t (x ∷ xs) f (inl e) r = let q : t x ≡ true = subst⁻¹ (λ (y : I). t y ≡ true) e r in rw q (inl e)
+  in-those t (x ∷ xs) f (inl e) r = let q = subst⁻¹ (λ y. t y ≡ true) e r in rw q (inl e)
   in-those t (x ∷ xs) f (inr i) r = go (t x) (in-those t xs f i r)
     where
       go : (b : Bool) → In f (those t xs) → In f (cond b (x ∷ those t xs) (those t xs))
@@ -90,16 +90,16 @@ module _ {I : Type 0} where
     pub above : (xs : List I) (low : ℕ) (f : I) → Rising key low xs → In f xs → low ≤ key f
     unfolding Rising Some
     above [] low f r i = absurd i
-    above (x ∷ xs) low f r (inl e) = subst (λ (y : I). low ≤ key y) e (r .0)
-    above (x ∷ xs) low f r (inr i) = omega (arith, r .0, above xs (key x + 1) f (r .1) i)
+    above (x ∷ xs) low f r (inl e) = rw e at (r .0)
+    above (x ∷ xs) low f r (inr i) = omega (arith, above xs (key x + 1) f (r .1) i)
 
     -- elements of one key are one
     pub unique : (xs : List I) (low : ℕ) (f g : I) → Rising key low xs → In f xs → In g xs → key f ≡ key g → f ≡ g
     unfolding Rising Some
     unique [] low f g r i j e = absurd i
-    unique (x ∷ xs) low f g r (inl a) (inl b) e = sym a ∙ b
-    unique (x ∷ xs) low f g r (inl a) (inr j) e = absurd (omega (arith, above xs (key x + 1) g (r .1) j, ap key a, e))
-    unique (x ∷ xs) low f g r (inr i) (inl b) e = absurd (omega (arith, above xs (key x + 1) f (r .1) i, ap key b, e))
+    unique (x ∷ xs) low f g r (inl a) (inl b) e = cc
+    unique (x ∷ xs) low f g r (inl a) (inr j) e = absurd (omega (arith, above xs (key x + 1) g (r .1) j, ap key a))
+    unique (x ∷ xs) low f g r (inr i) (inl b) e = absurd (omega (arith, above xs (key x + 1) f (r .1) i, ap key b))
     unique (x ∷ xs) low f g r (inr i) (inr j) e = unique xs (key x + 1) f g (r .1) i j e
 
     -- behind the first part the keys are above those in it
@@ -112,13 +112,13 @@ module _ {I : Type 0} where
     rising-behind : (g h : List I) (low : ℕ) → Rising key low (g ++ h) → Rising key low h
     unfolding Rising
     rising-behind [] h low r = r
-    rising-behind (x ∷ g) h low r = rising-down key h low (key x + 1) (omega (arith, r .0)) (rising-behind g h (key x + 1) (r .1))
+    rising-behind (x ∷ g) h low r = rising-down key h low (key x + 1) (omega arith) (rising-behind g h (key x + 1) (r .1))
 
   abbrev pub Among : List I → List I → Type 0
   Among rs g = (x : I) → In x g → In x rs
 
   pub among-all : (rs g : List I) → g ≡ rs → Among rs g
-  among-all rs g e x i = subst (In x) e i
+  among-all rs g e x i = rw e at i
 
   -- those of some that pass a test are among those of all
   pub among-those : (t : I → Bool) (rs g : List I) → Among rs g → Among (those t rs) (those t g)
@@ -190,13 +190,13 @@ module _ {I : Type 0} where
 
     within : (xs : List I) (x : I) (gs : List (List I)) → Across S (final x xs) gs → Cut R S gs → (Neighbours p f (flat gs) → Some Both gs ⊎ S p f)
         → Neighbours p f ((x ∷ xs) ++ flat gs) → Some Both ((x ∷ xs) ∷ gs) ⊎ S p f
-    unfolding Across Cut flat Neighbours Some final
+    unfolding Across flat Neighbours Some final
     within [] x [] a c ih n = absurd n
     within [] x ([] ∷ gs) a c ih n = absurd a
     within [] x ((y ∷ ys) ∷ gs) a c ih (inl e) = inr (of-both S x y p f e a)
-    within [] x ((y ∷ ys) ∷ gs) a c ih (inr n) = ⊎-elim (λ (s : Some Both ((y ∷ ys) ∷ gs)). inl (inr s)) (λ (s : S p f). inr s) (ih n)
+    within [] x ((y ∷ ys) ∷ gs) a c ih (inr n) = ⊎-elim (λ s. inl (inr s)) (λ s. inr s) (ih n)
     within (y ∷ ys) x gs a c ih (inl e) = inl (inl (inl (e .0), inr (inl (e .1))))
-    within (y ∷ ys) x gs a c ih (inr n) = ⊎-elim wider (λ (s : S p f). inr s) (within ys y gs a c ih n)
+    within (y ∷ ys) x gs a c ih (inr n) = ⊎-elim wider (λ s. inr s) (within ys y gs a c ih n)
       where
         wider : Some Both ((y ∷ ys) ∷ gs) → Some Both ((x ∷ y ∷ ys) ∷ gs) ⊎ S p f
         wider (inl b) = inl (inl (inr (b .0), inr (b .1)))
@@ -223,7 +223,7 @@ module _ {I : Type 0} where
   pub one-has : (key : I → ℕ) (u : ℕ) (g : List I) (C : Type 0) → (Every (λ f. key f ≡ u → ⊥) g → ⊥)
       → ((f : I) → In f g → key f ≡ u → C) → C
   one-has key u g C some so =
-      ⊎-elim (λ (s : Some (λ f. key f ≡ u) g). in-some (λ f. key f ≡ u) C g s so) (λ (n : Every (λ f. key f ≡ u → ⊥) g). absurd (some n)) (found key u g)
+      ⊎-elim (λ s. in-some (λ f. key f ≡ u) C g s so) (λ n. absurd (some n)) (found key u g)
 
   -- neighbours
   pub neighbours-in : (xs : List I) (p f : I) → Neighbours p f xs → In p xs × In f xs
@@ -237,5 +237,5 @@ module _ {I : Type 0} where
   unfolding Neighbours Rising
   neighbours-rise key [] low p f r n = absurd n
   neighbours-rise key (x ∷ []) low p f r n = absurd n
-  neighbours-rise key (x ∷ y ∷ ys) low p f r (inl e) = of-both (λ z w. key z < key w) x y p f e (omega (arith, r .1 .0))
+  neighbours-rise key (x ∷ y ∷ ys) low p f r (inl e) = of-both (λ z w. key z < key w) x y p f e (omega arith)
   neighbours-rise key (x ∷ y ∷ ys) low p f r (inr n) = neighbours-rise key (y ∷ ys) (key x + 1) p f (r .1) n

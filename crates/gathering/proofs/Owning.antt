@@ -1,6 +1,6 @@
 -- Each item has exactly one of its own among what is handed out, and what is handed out comes from such items.
 -- Assumes nothing.
-use mathlib.Core.Path.{_≡_, sym, ap, subst⁻¹, _∙_}
+use mathlib.Core.Path.{_≡_, sym, ap, _∙_}
 use mathlib.Core.Bool.{Bool, true, false, true≢false}
 use mathlib.Core.List.{List, [], _∷_}
 use mathlib.Core.Logic.{_⊎_, inl, inr, ⊎-elim}
@@ -57,7 +57,7 @@ module _ {I O : Type 0} (P : List I → O → Type 0) (Own : I → O → Type 0)
       → (U : O → Type 0) → ((g : List I) (o : O) → P g o → Among rs g → U o) → Owned Own Q U rs os
   owned own-part key low r Q has U all = record {
     one = in-every _ rs (λ f i.
-        once-in P rs (Own f) f (part-own f) (own-part f i) key gs os low parts all-in (subst⁻¹ (Rising key low) whole r) (subst⁻¹ (In f) whole i));
+        once-in P rs (Own f) f (part-own f) (own-part f i) key gs os low parts all-in (rw whole r) (rw whole i));
     there = in-every _ rs (λ f i.
         each P rs (λ o. Own f o → Q f o) (λ g o p w h. every-in (λ x. Q x o) g f (has g o p) (own-part f i g o p w h)) gs os parts all-in);
     each = each P rs U all gs os parts all-in;
@@ -68,7 +68,7 @@ module _ {I O : Type 0} (P : List I → O → Type 0) (Own : I → O → Type 0)
   both-own R S cut p f n =
       let Both : List I → Type 0 = λ g. In p g × In f g in
       ⊎-elim
-      (λ (s : Some Both gs). inl (some-out P rs (λ o. Own p o × Own f o) Both
+      (λ s. inl (some-out P rs (λ o. Own p o × Own f o) Both
       (λ g o q w i. (part-own p g o q w (i .0), part-own f g o q w (i .1))) gs os parts all-in s))
-      (λ (s : S p f). inr s)
-      (beside R S p f gs cut (subst⁻¹ (Neighbours p f) whole n))
+      (λ s. inr s)
+      (beside R S p f gs cut (rw whole n))

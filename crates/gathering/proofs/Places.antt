@@ -1,7 +1,7 @@
 -- Where the items of what is handed out don't tell it apart, its place does: the item of number i stands in exactly one, by how many
 -- stand in those before it; and neighbours stand in one or in two.
 -- Assumes nothing.
-use mathlib.Core.Path.{_≡_, refl, subst}
+use mathlib.Core.Path.{_≡_, refl}
 use mathlib.Core.Bool.{Bool, true, false}
 use mathlib.Core.List.{List, [], _∷_, _++_}
 use mathlib.Core.Logic.{_⊎_, inl, inr, ⊎-elim}
@@ -26,7 +26,7 @@ module _ {I : Type 0} where
 
   at-behind : (g h : List I) (i j : ℕ) (f : I) → i ≡ length g + j → At i f (g ++ h) → At j f h
   unfolding At
-  at-behind [] h i j f e a = let q : i ≡ j = omega arith in subst (λ (k : ℕ). At k f h) q a
+  at-behind [] h i j f e a = let q : i ≡ j = omega arith in rw q at a
   at-behind (x ∷ g) h zero j f e a = absurd (omega arith)
   at-behind (x ∷ g) h (suc i) j f e a = at-behind g h i j f (omega arith) a
 
@@ -38,7 +38,7 @@ module _ {I : Type 0} where
 
   behind-at : (g h : List I) (i j : ℕ) (f : I) → i ≡ length g + j → At j f h → At i f (g ++ h)
   unfolding At
-  behind-at [] h i j f e a = let q : j ≡ i = omega arith in subst (λ (k : ℕ). At k f h) q a
+  behind-at [] h i j f e a = let q : j ≡ i = omega arith in rw q at a
   behind-at (x ∷ g) h zero j f e a = absurd (omega arith)
   behind-at (x ∷ g) h (suc i) j f e a = behind-at g h i j f (omega arith) a
 
@@ -70,7 +70,7 @@ module _ {I : Type 0} (R : I → I → Type 0) where
 none-has : {O : Type 0} (items : O → ℕ) (os : List O) (n m i : ℕ) → i < m → Every (λ e. HasItem items i e → ⊥) (placed items n m os)
 unfolding placed Every
 none-has items [] n m i l = tt
-none-has items (o ∷ os) n m i l = (λ h. omega (arith, h .0), none-has items os (n + 1) (m + items o) i (omega arith))
+none-has items (o ∷ os) n m i l = (λ h. omega arith, none-has items os (n + 1) (m + items o) i (omega arith))
 
 module _ {I O : Type 0} (P : List I → O → Type 0) (items : O → ℕ) (is : (g : List I) (o : O) → P g o → items o ≡ length g) where
   -- what is so of each, with the places of its items among all items ys
@@ -86,7 +86,7 @@ module _ {I O : Type 0} (P : List I → O → Type 0) (items : O → ℕ) (is : 
     so g (record { place = n; before = m; thing = o }) (h .0) (λ i f b. a i f (front-at g (flat gs) i f b)),
     each-placed U ys so gs os (n + 1) (m + items o) (h .1) (λ i f b.
         let e : m + (length g + i) ≡ m + items o + i = omega (arith, is g o (h .0)) in
-        subst (λ (k : ℕ). At k f ys) e (a (length g + i) f (behind-at g (flat gs) (length g + i) i f refl b))),
+        rw e at (a (length g + i) f (behind-at g (flat gs) (length g + i) i f refl b))),
   )
 
   -- items number i and i + 1: in one, or in two
@@ -120,16 +120,16 @@ module _ {I O : Type 0} (P : List I → O → Type 0) (items : O → ℕ) (is : 
             let d = at-front (x ∷ xs) (flat gs) i p l a in
             let r = across-at S xs x gs i p f (omega arith) (c .1) d (at-behind (x ∷ xs) (flat gs) (suc i) 0 f (omega arith) b) in
             let none = none-has items os (n + 1) (m + items o) (m + i) (omega (arith, size)) in
-            inr (r, (λ j. omega (arith, j .1 .1, size), every-map _ _ (λ y z j. z (j .0)) (placed items (n + 1) (m + items o) os) none))
+            inr (r, (λ j. omega (arith, size), every-map _ _ (λ y z j. z (j .0)) (placed items (n + 1) (m + items o) os) none))
         go false e false q ih =
             let l = ltb-false i (length (x ∷ xs)) q in
             let z : m + items o + (i - length (x ∷ xs)) ≡ m + i = omega (arith, size) in
             let d = at-behind (x ∷ xs) (flat gs) i (i - length (x ∷ xs)) p (omega arith) a in
             let u = at-behind (x ∷ xs) (flat gs) (suc i) (suc (i - length (x ∷ xs))) f (omega arith) b in
-            let r = subst (λ (k : ℕ). OneOrTwo p f k (placed items (n + 1) (m + items o) os)) z (ih d u) in
-            ⊎-elim (λ (y : R p f × Some (HasBoth items (m + i)) (placed items (n + 1) (m + items o) os)). inl (y .0, inr (y .1)))
-            (λ (y : S p f × Every (λ e. HasBoth items (m + i) e → ⊥) (placed items (n + 1) (m + items o) os)).
-            inr (y .0, (λ j. omega (arith, j .0 .1, size), y .1)))
+            let r = rw z at (ih d u) in
+            ⊎-elim (λ y. inl (y .0, inr (y .1)))
+            (λ y.
+            inr (y .0, (λ j. omega arith, y .1)))
             r
 
 -- Q is what each item has in its part
@@ -165,5 +165,5 @@ module _ {I O : Type 0} (P : List I → O → Type 0) (items : O → ℕ) (is : 
           let l = ltb-false i (length g) e in
           let q : m + items o + (i - length g) ≡ m + i = omega (arith, size) in
           let r = ih (at-behind g (flat gs) i (i - length g) f (omega arith) a) in
-          let rest = subst (λ (k : ℕ). Stood f k (placed items (n + 1) (m + items o) os)) q r in
-          (inr (λ b. omega (arith, b .1, size), rest .0), (λ b. absurd (omega (arith, b .1, size)), rest .1))
+          let rest = rw q at r in
+          (inr (λ b. omega arith, rest .0), (λ b. absurd (omega arith), rest .1))

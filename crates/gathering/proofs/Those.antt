@@ -1,10 +1,11 @@
 -- The items among others that pass a test.
 -- Assumes nothing.
-use mathlib.Core.Path.{_≡_, refl, ap}
+use mathlib.Core.Path.{_≡_, refl}
 use mathlib.Core.Bool.{Bool, true, false, cond}
 use mathlib.Core.List.{List, [], _∷_, _++_}
 use Prim.Native.Nat.{ℕ, _+_}
 use native.Mathlib.Omega.{arith}
+use Rattle.prelude.proofs.Conds.{cases}
 use Rattle.prelude.specs.Every.{Every}
 use Rattle.gathering.specs.Lists.{those}
 use Rattle.gathering.specs.Laying.{putAll, Rising}
@@ -18,28 +19,26 @@ module _ {I : Type 0} (p : I → Bool) where
     where
       go : (t : Bool) → those p (g ++ h) ≡ those p g ++ those p h
           → cond t (x ∷ those p (g ++ h)) (those p (g ++ h)) ≡ cond t (x ∷ those p g) (those p g) ++ those p h
-      go true e = ap (λ (z : List I). x ∷ z) e
+      go true e = cc
       go false e = e
 
   -- what each has, each of them has
   pub every-those : (P : I → Type 0) (xs : List I) → Every P xs → Every P (those p xs)
   unfolding Every those
   every-those P [] h = tt
-  every-those P (x ∷ xs) h = go (p x) refl (every-those P xs (h .1))
-    where
-      go : (t : Bool) → p x ≡ t → Every P (those p xs) → Every P (those p (x ∷ xs))
-      go true e r = rw e (h .0, r)
-      go false e r = rw e r
+  every-those P (x ∷ xs) h =
+      cases (p x)
+      (λ e. rw e (h .0, (every-those P xs (h .1))))
+      (λ e. rw e (every-those P xs (h .1)))
 
   -- keys that rise, rise among them
   pub rising-those : (key : I → ℕ) (xs : List I) (low : ℕ) → Rising key low xs → Rising key low (those p xs)
   unfolding Rising those
   rising-those key [] low r = tt
-  rising-those key (x ∷ xs) low r = go (p x) refl (rising-those key xs (key x + 1) (r .1))
-    where
-      go : (t : Bool) → p x ≡ t → Rising key (key x + 1) (those p xs) → Rising key low (those p (x ∷ xs))
-      go true e q = rw e (r .0, q)
-      go false e q = rw e (rising-down key (those p xs) low (key x + 1) (omega (arith, r .0)) q)
+  rising-those key (x ∷ xs) low r =
+      cases (p x)
+      (λ e. rw e (r .0, (rising-those key xs (key x + 1) (r .1))))
+      (λ e. rw e (rising-down key (those p xs) low (key x + 1) (omega arith) (rising-those key xs (key x + 1) (r .1))))
 
   -- where the others change nothing, they are what is put
   pub put-those : {B : Type 0} (put : I → B → B) (xs : List I) (b : B) → putAll (λ x c. cond (p x) (put x c) c) b xs ≡ putAll put b (those p xs)
@@ -56,4 +55,4 @@ module _ {I : Type 0} (p : I → Bool) where
 pub those-all : {I : Type 0} (xs : List I) → those (λ x. true) xs ≡ xs
 unfolding those
 those-all [] = refl
-those-all (x ∷ xs) = ap (λ (ys : List _). x ∷ ys) (those-all xs)
+those-all (x ∷ xs) = rw (those-all xs)

@@ -1,6 +1,6 @@
 -- What closed, as lines: none where nothing did.
 -- Assumes nothing.
-use mathlib.Core.Path.{_≡_, refl, sym, subst}
+use mathlib.Core.Path.{_≡_, refl}
 use mathlib.Core.Bool.{Bool, true, false, cond, not, _&&_}
 use mathlib.Core.List.{List, []}
 use Prim.Native.Nat.{ℕ, _+_, _*_, _^_, _<_, _≤_}
@@ -34,7 +34,7 @@ length-line word first frames cells h =
     let a = length-decimal first in
     let b = length-decimal frames in
     let c = length-decimal cells in
-    simp length-append (omega (arith, h, a, b, c))
+    simp length-append (omega arith)
 
 -- the line of an accumulation or a snapshot, where one closed and where none did, fits a line's room
 length-gathered : (word : List ℕ) (closed : Bool) (first frames cells : ℕ) → length word ≤ wordSize
@@ -64,24 +64,24 @@ length-closed c =
     let a = length-accum (c .accumulation) in
     let s = length-snap (c .«first_snapshot») in
     let t = length-snap (c .«second_snapshot») in
-    simp length-append (omega (arith, m, a, s, t))
+    simp length-append (omega arith)
 
 major-open : (r : MajorReport) → r .closed ≡ false → majorLine r ≡ []
 unfolding majorLine
-major-open r e = rw e refl
+major-open r e = cc
 
 major-past : (r : MajorReport) → r .closed ≡ true → 2 ^ 64 ≤ 16 * r .frame .number → majorLine r ≡ []
 unfolding majorLine
-major-past r e h = rw (e, le-ltb (16 * r .frame .number) (2 ^ 64) h) refl
+major-past r e h = rw (e, le-ltb) refl
 
 major-closed : (r : MajorReport) → r .closed ≡ true → 16 * r .frame .number < 2 ^ 64 → majorLine r ≡ frameLine (r .frame)
 unfolding majorLine
-major-closed r e h = rw (e, lt-ltb (16 * r .frame .number) (2 ^ 64) h) refl
+major-closed r e h = rw (e, lt-ltb) refl
 
 module _ (d : List ℕ) (at : ℕ) where
   -- where nothing closed, or the line would hold a number past 64 bits, nothing is put
   nothing : (text : List ℕ) → text ≡ [] → at ≤ length d → Put d at text d at
-  nothing text e h = subst (λ (t : List ℕ). Put d at t d at) (sym e) (put-none d at h)
+  nothing text e h = rw e (put-none d at h)
 
   pub gathered-none : (closed : Bool) (line : List ℕ) → at ≤ length d → not closed ≡ true → Put d at (cond closed line []) d at
   gathered-none closed line h e = nothing (cond closed line []) (rw (not-true closed e) refl) h
@@ -100,19 +100,19 @@ module _ (d : List ℕ) (at : ℕ) where
       → Put d at (lineOf (ascii "major") (16 * r .frame .number) (ones (r .frame .slots)) (54 * ones (r .frame .«mag_slots»))) e p
       → Put d at (majorLine r) e p
   unfolding frameLine
-  major-put r e p c l q = subst (λ (t : List ℕ). Put d at t e p) (sym (major-closed r (not-false (r .closed) c) (omega arith))) q
+  major-put r e p c l q = rw (major-closed r (not-false (r .closed) c) (omega arith)) q
 
 -- no number of cells leaves 64 bits
 pub cells-fit : (each n : ℕ) → each < 2 ^ 8 → ones n ≤ 64 → each * ones n < 2 ^ 64
 cells-fit each n h k =
     let p : each * ones n ≤ 255 * 64 = mul-le-mul {n₂ = 255} (omega arith) k in
-    omega (arith, p)
+    omega arith
 
 -- the lines, each put where the one before ends; what is free after each is a line's room for every one that may follow
 module _ (c : Closed) {d : List ℕ} {at : ℕ} (h : at + closedSize ≤ length d)
     {d₁ : List ℕ} {p₁ : ℕ} (m : Put d at (majorLine (c .major)) d₁ p₁) where
   pub after-major : p₁ + 3 * lineSize ≤ length d₁
-  after-major = room-after m (3 * lineSize) (omega (arith, h, length-major (c .major)))
+  after-major = room-after m (3 * lineSize) (omega (arith, length-major (c .major)))
 
   module _ {d₂ : List ℕ} {p₂ : ℕ} (a : Put d₁ p₁ (accumLine (c .accumulation)) d₂ p₂) where
     pub after-accum : p₂ + 2 * lineSize ≤ length d₂
@@ -125,7 +125,7 @@ module _ (c : Closed) {d : List ℕ} {at : ℕ} (h : at + closedSize ≤ length 
       pub closed-put : {d₄ : List ℕ} {p₄ : ℕ} → Put d₃ p₃ (snapLine (c .«second_snapshot»)) d₄ p₄ → Put d at (closedLines c) d₄ p₄
       unfolding closedLines
       closed-put t =
-          put-then m (omega (arith, h, length-major (c .major)))
+          put-then m (omega (arith, length-major (c .major)))
           (put-then a (omega (arith, after-major, length-accum (c .accumulation)))
           (put-then s (omega (arith, after-accum, length-snap (c .«first_snapshot»))) t))
 
@@ -135,8 +135,8 @@ unfolding majorLine
 always-listed s h o =
     let f = facts s h in
     let m = s .major in
-    let z : m .slots ≡ 0 → ⊥ = eqb-false (m .slots) 0 (not-true (eqb (m .slots) 0) o) in
+    let z = eqb-false (m .slots) 0 (not-true (eqb (m .slots) 0) o) in
     let n = current-slot (s .clock) m (slots-of (s .clock) m (f .major) .current) z .0 in
     let l = last-below (s .clock) (f .clock) in
-    let b : 16 * m .number < 2 ^ 64 = omega (arith, n, l) in
-    rw (o, lt-ltb (16 * m .number) (2 ^ 64) b) refl
+    let b : 16 * m .number < 2 ^ 64 = omega arith in
+    rw (o, lt-ltb) refl

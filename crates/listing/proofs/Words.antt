@@ -1,6 +1,6 @@
 -- The words for a number: each row of `words` by its number, and none past it.
 -- Assumes nothing.
-use mathlib.Core.Path.{_≡_, refl, sym, ap, subst, _∙_}
+use mathlib.Core.Path.{_≡_, refl, ap, _∙_}
 use mathlib.Core.Bool.{Bool, true, false}
 use mathlib.Core.List.{List, [], _∷_, _++_}
 use Prim.Native.Nat.{ℕ, _+_, _-_, _<_, _≤_}
@@ -9,6 +9,7 @@ use native.Mathlib.Omega.{arith}
 use lib.Dec.{T, eqb, ltb, leb, eqb→eq, leb→le}
 use lib.ListN.{length, getD, take, drop, length-append, List·getD-eq-default}
 use borrow.Author.Tests.{ltb-true, ltb-false}
+use Rattle.prelude.proofs.Conds.{cases}
 use Rattle.prelude.specs.Upto.{both}
 use Rattle.prelude.proofs.Upto.{both-left, both-right, upto-at}
 use Rattle.listing.specs.Text.{ascii, space}
@@ -53,8 +54,8 @@ same-is [] [] t = refl
 same-is [] (y ∷ ys) t = absurd t
 same-is (x ∷ xs) [] t = absurd t
 same-is (x ∷ xs) (y ∷ ys) t =
-    ap (λ (z : ℕ). z ∷ xs) (eqb→eq x y (both-left (eqb x y) (same xs ys) t))
-    ∙ ap (λ (zs : List ℕ). y ∷ zs) (same-is xs ys (both-right (eqb x y) (same xs ys) t))
+    ap (λ z. z ∷ xs) (eqb→eq x y (both-left (eqb x y) (same xs ys) t))
+    ∙ rw (same-is xs ys (both-right (eqb x y) (same xs ys) t))
 
 -- one test for every row
 abbrev starts : ℕ → Bool
@@ -99,15 +100,14 @@ words-past rule h = ap ascii (List·getD-eq-default words "" h)
 
 -- a number that has no row
 pub no-words : (rule : ℕ) (d : List ℕ) (at : ℕ) → at ≤ length d → wordsOf rule ≡ [] → Put d at (wordsOf rule) d at
-no-words rule d at h e = subst (λ (t : List ℕ). Put d at t d at) (sym e) (put-none d at h)
+no-words rule d at h e = rw e (put-none d at h)
 
 -- the longest
 pub length-words : (rule : ℕ) → length (wordsOf rule) ≤ wordsSize
-length-words rule = go (ltb rule rows) refl
-  where
-    go : (b : Bool) → ltb rule rows ≡ b → length (wordsOf rule) ≤ wordsSize
-    go true e = row-of rule (ltb-true rule rows e) .short
-    go false e = subst (λ (t : List ℕ). length t ≤ wordsSize) (sym (words-past rule (ltb-false rule rows e))) (omega arith)
+length-words rule =
+    cases (ltb rule rows)
+    (λ e. row-of rule (ltb-true rule rows e) .short)
+    (λ e. rw (words-past rule (ltb-false rule rows e)) (omega arith))
 
 pub length-place : (n offset : ℕ) → length (recordPlace n offset) ≤ placeSize
 unfolding recordPlace
@@ -126,7 +126,7 @@ module _ (n offset rule : ℕ) {d : List ℕ} {at : ℕ} (h : at + refusalSize �
     {d₃ : List ℕ} {p₃ : ℕ} (r : Put d₂ p₂ (space ∷ decimal rule) d₃ p₃)
     {d₄ : List ℕ} {p₄ : ℕ} (c : Put d₃ p₃ (ascii ": ") d₄ p₄) where
   after-place : p₁ + (wordsSize + 38) ≤ length d₁
-  after-place = room-after o (wordsSize + 38) (omega (arith, h, length-place n offset))
+  after-place = room-after o (wordsSize + 38) (omega (arith, length-place n offset))
 
   after-with : p₂ + (wordsSize + 24) ≤ length d₂
   after-with = room-after w (wordsSize + 24) (omega (arith, after-place))
@@ -144,7 +144,7 @@ module _ (n offset rule : ℕ) {d : List ℕ} {at : ℕ} (h : at + refusalSize �
     pub refusal-put : {d₆ : List ℕ} {p₆ : ℕ} → Put d₅ p₅ (ascii "\n") d₆ p₆ → Put d at (refusalLine n offset rule) d₆ p₆
     unfolding refusalLine
     refusal-put e =
-        put-then o (omega (arith, h, length-place n offset))
+        put-then o (omega (arith, length-place n offset))
         (put-then w (omega (arith, after-place))
         (put-then r (omega (arith, after-with, length-decimal rule))
         (put-then c (omega (arith, after-number))

@@ -27,10 +27,10 @@ module _ (m : List ℕ) (s : List ℤ) where
   none-laid e = record { answer = no-range (bothSized m s) m e; room = rw e }
 
   pub mag-off : (length m ≡ magSize → ⊥) → Laid m s NoSuchPlace s
-  mag-off h = none-laid (rw (ne-eqb (length m) magSize h))
+  mag-off h = none-laid (rw ne-eqb)
 
   pub room-off : length m ≡ magSize → (length s ≡ samplesSize → ⊥) → Laid m s NoSuchPlace s
-  room-off h k = none-laid (rw (eq-eqb (length m) magSize h, ne-eqb (length s) samplesSize k))
+  room-off h k = none-laid (rw (eq-eqb, ne-eqb))
 
   pub all-laid : length m ≡ magSize → length s ≡ samplesSize → (u : Unpacked) → RangeIs (magSized m) m u
       → (ws : List ℕ) → ws ≡ build (fourAt m) fours → (s′ : List ℤ) → s′ ≡ build (sampleIn ws) samplesSize → Laid m s u s′

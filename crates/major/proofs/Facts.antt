@@ -1,7 +1,7 @@
 -- What a major frame that passes its part of the list is known to be.
 -- Assumes nothing.
 use mathlib.Core.Path.{_≡_, refl, sym, _∙_}
-use mathlib.Core.Bool.{Bool, true, false, not, _&&_, _||_, false≢true}
+use mathlib.Core.Bool.{Bool, true, false, not, _||_, false≢true}
 use Prim.Native.Nat.{ℕ, _+_, _/_, _^_, _<_, _≤_}
 use native.Mathlib.Omega.{arith}
 use lib.Dec.{eqb}
@@ -37,7 +37,7 @@ slots-of c m e =
 
 pub is-sound : (c : Clock) (m : Major) → Slots c m → majorSound c m ≡ true
 unfolding majorSound
-is-sound c m f = rw (f .slots, f .current, f .empty) (f .start)
+is-sound c m f = cc
 
 -- number and highest slot of an open major frame
 pub current-slot : (c : Clock) (m : Major) → majorNow c m ≡ true → (m .slots ≡ 0 → ⊥)
@@ -69,10 +69,10 @@ mag-among m i e h = go (bitSet (m .«mag_slots») i) refl (well-facts m i e .amo
   where
     go : (t : Bool) → bitSet (m .«mag_slots») i ≡ t → (not t || bitSet (m .slots) i) ≡ true → bitSet (m .«mag_slots») i ≡ false
     go false t _ = t
-    go true t q = absurd (false≢true (sym h ∙ q))
+    go true t q = cc
 
 is-open : (m : Major) → majorOpen m ≡ true → m .slots ≡ 0 → ⊥
-is-open m e q = let y : not (eqb (m .slots) 0) ≡ false = rw (eq-eqb (m .slots) 0 q) in false≢true (sym y ∙ e)
+is-open m e q = let y : not (eqb (m .slots) 0) ≡ false = rw eq-eqb in false≢true (sym y ∙ e)
 
 -- a later count of the same major frame has a higher slot
 pub is-free : (c : Clock) (m : Major) (d : ℕ) → majorSound c m ≡ true → (c .any ≡ true → c .last < d) → continues m d ≡ true → Free m d
@@ -84,7 +84,7 @@ is-free c m d e above t =
     let n : m .number ≡ d / 16 = eqb-true _ _ (p .1) in
     let k = current-slot c m (f .current) z in
     let h = highest-high (m .slots) (slotOf (c .last)) (k .1) in
-    let l : c .last < d = above (has-begun c (m .slots) (f .start) z) in
-    let j : slotOf (c .last) + 1 ≤ slotOf d = omega (arith, k .0) in
+    let l = above (has-begun c (m .slots) (f .start) z) in
+    let j : slotOf (c .last) + 1 ≤ slotOf d = omega arith in
     let b : m .slots < 2 ^ slotOf d = omega (arith, pow-mono j) in
     (b, λ i p q. mag-among m i (slot-clauses m i (f .slots) q) (bits-above (m .slots) i (omega (arith, pow-mono p))))

@@ -3,7 +3,7 @@
 use mathlib.Core.Path.{_≡_, refl, sym, subst, subst⁻¹, _∙_}
 use mathlib.Core.Bool.{Bool, true, false, cond, not, _&&_, or-true}
 use mathlib.Core.List.{List}
-use Prim.Native.Nat.{ℕ, _+_, _/_, _^_, _<_, _≤_}
+use Prim.Native.Nat.{ℕ, _+_, _^_, _<_, _≤_}
 use native.Mathlib.Omega.{arith}
 use lib.Dec.{eqb}
 use lib.ListN.{length, replicate, getD, length-set, length-replicate, getD-replicate}
@@ -12,7 +12,7 @@ use lib.Seq.{ext-getD, getD-set-same, getD-set-other}
 use borrow.Author.Tests.{eqb-true, eqb-false, eq-eqb, ne-eqb, le-leb}
 use Rattle.prelude.specs.Marks.{bitSet, highest, marked}
 use Rattle.prelude.proofs.Marks.{highest-marked, marked-own, marked-other, marked-below, bits-above, below}
-use Rattle.prelude.proofs.Conds.{second}
+use Rattle.prelude.proofs.Conds.{cases, second}
 use Rattle.prelude.proofs.Upto.{upto-all}
 use Rattle.clock.specs.Clock.{accepted}
 use Rattle.clock.specs.declared.Clock.{Clock}
@@ -32,11 +32,11 @@ pub record Room (m : Major) (u : ℕ) : Type 0 where
   pub shaped : Shaped m
 
 pub shaped-none : Shaped noMajor
-shaped-none = record { ranges = refl; words = refl; mags = omega arith }
+shaped-none = omega arith
 
 pub none-well : (i : ℕ) → i < 16 → slotHolds noMajor i ≡ true
 unfolding slotHolds slotTest
-none-well i h = rw (bits-above 0 i (pow-pos i), getD-replicate {A = ℕ} 16 i 0 0 h)
+none-well i h = rw (bits-above 0 i (pow-pos i), getD-replicate)
 
 pub room-none : (u : ℕ) → Room noMajor u
 room-none u = record { slots = pow-pos u; mags = pow-pos u; well = none-well; shaped = shaped-none }
@@ -48,13 +48,13 @@ module _ (m : Major) (d : ℕ) (t : Room m (slotOf d)) (g w : ℕ) (hg : g ≤ 7
   slot-here : (mag : Bool) → slotHolds (into m d mag g w) (slotOf d) ≡ true
   unfolding slotHolds slotTest into
   slot-here true =
-      let len : slotOf d < length (m .ranges) = omega (arith, t .shaped .ranges) in
+      let len : slotOf d < length (m .ranges) = omega arith in
       let own = marked-own (m .slots) (slotOf d) (t .slots) in
       rw (getD-set-same (m .ranges) (slotOf d) g 0 len, le-leb g 7 hg, marked-own (m .«mag_slots») (slotOf d) (t .mags), own)
   slot-here false =
       let f = well-facts m (slotOf d) (t .well (slotOf d) small) in
       let q = bits-above (m .«mag_slots») (slotOf d) (t .mags) in
-      let z : eqb (getD (m .ranges) (slotOf d) 0) 0 ≡ true = rw q at (f .range) in
+      let z = rw q at (f .range) in
       rw (f .fits, q, z, marked-own (m .slots) (slotOf d) (t .slots))
 
   slot-there : (mag : Bool) (i : ℕ) → i < 16 → (i ≡ slotOf d → ⊥) → slotHolds (into m d mag g w) i ≡ true
@@ -64,22 +64,21 @@ module _ (m : Major) (d : ℕ) (t : Room m (slotOf d)) (g w : ℕ) (hg : g ≤ 7
       let word = getD-set-other (m .words) (slotOf d) i w 0 n in
       rw (range, word, marked-other (m .«mag_slots») (slotOf d) i (t .mags) n, marked-other (m .slots) (slotOf d) i (t .slots) n) (t .well i h)
   slot-there false i h n =
-      rw (getD-set-other (m .words) (slotOf d) i w 0 n, marked-other (m .slots) (slotOf d) i (t .slots) n) (t .well i h)
+      rw (getD-set-other, marked-other (m .slots) (slotOf d) i (t .slots) n) (t .well i h)
 
   slots-well : (mag : Bool) (i : ℕ) → i < 16 → slotHolds (into m d mag g w) i ≡ true
-  slots-well mag i h = go (eqb i (slotOf d)) refl
-    where
-      go : (b : Bool) → eqb i (slotOf d) ≡ b → slotHolds (into m d mag g w) i ≡ true
-      go true e = subst (λ (j : ℕ). slotHolds (into m d mag g w) j ≡ true) (sym (eqb-true i (slotOf d) e)) (slot-here mag)
-      go false e = slot-there mag i h (eqb-false i (slotOf d) e)
+  slots-well mag i h =
+      cases (eqb i (slotOf d))
+      (λ e. subst (λ (j : ℕ). slotHolds (into m d mag g w) j ≡ true) (sym (eqb-true i (slotOf d) e)) (slot-here mag))
+      (λ e. slot-there mag i h (eqb-false i (slotOf d) e))
 
   slots-some : (mag : Bool) → into m d mag g w .slots ≡ 0 → ⊥
   unfolding into marked
-  slots-some mag e = omega (arith, pow-pos (slotOf d))
+  slots-some mag e = omega arith
 
   here : (mag : Bool) → (eqb (into m d mag g w .number) (majorNumber d) && highest (into m d mag g w .slots) (slotOf d)) ≡ true
   unfolding into
-  here mag = rw (eq-eqb (d / 16) (d / 16) refl) (highest-marked (m .slots) (slotOf d) (t .slots))
+  here mag = rw eq-eqb (highest-marked (m .slots) (slotOf d) (t .slots))
 
   keeps-into : (mag : Bool) → Slots (accepted d) (into m d mag g w)
   unfolding slotsHold majorNow noSlot
@@ -93,7 +92,7 @@ module _ (m : Major) (d : ℕ) (t : Room m (slotOf d)) (g w : ℕ) (hg : g ≤ 7
   mags-small : (mag : Bool) → into m d mag g w .«mag_slots» < 2 ^ 16
   unfolding into
   mags-small true = omega (arith, marked-below (m .«mag_slots») (slotOf d) (t .mags), pow-mono {i = slotOf d + 1} {j = 16} (omega arith))
-  mags-small false = t .shaped .mags
+  mags-small false = omega arith
 
   shaped-into : (mag : Bool) → Shaped (into m d mag g w)
   unfolding into
@@ -138,7 +137,7 @@ module _ (c : Clock) (m : Major) (d : ℕ) (mag : Bool) (g w : ℕ)
       (is-sound (accepted d) _ (keeps-into (held-in (continues m d)) d (room (continues m d) refl) g w hg mag))
 
   pub step-shaped : Shaped (stepMajor m d mag g w .next)
-  step-shaped = subst⁻¹ Shaped next-is (shaped-into (held-in (continues m d)) d (room (continues m d) refl) g w hg mag)
+  step-shaped = rw next-is (shaped-into (held-in (continues m d)) d (room (continues m d) refl) g w hg mag)
 
 -- a list of zeros is one
 zeros : (n : ℕ) (xs : List ℕ) → length xs ≡ n → ((i : ℕ) → i < n → getD xs i 0 ≡ 0) → xs ≡ replicate n 0
@@ -148,7 +147,7 @@ zeros n xs l h =
 
 all-zero : (number slots mags : ℕ) (ranges words : List ℕ) → number ≡ 0 → slots ≡ 0 → mags ≡ 0 → ranges ≡ replicate 16 0 → words ≡ replicate 16 0
     → _≡_ {A = Major} (record { number = number; slots = slots; «mag_slots» = mags; ranges = ranges; words = words }) noMajor
-all-zero number slots mags ranges words a b c d e = rw (a, b, c, d, e)
+all-zero number slots mags ranges words a b c d e = cc
 
 -- until something is accepted there is none
 pub unstarted : (c : Clock) (m : Major) → majorSound c m ≡ true → Shaped m → c .any ≡ false → m ≡ noMajor
@@ -156,8 +155,8 @@ unfolding noSlot
 unstarted c m e z n =
     let f = slots-of c m e in
     let slots = not-begun c (m .slots) (f .start) n in
-    let shut : not (eqb (m .slots) 0) ≡ false = rw (eq-eqb (m .slots) 0 slots) in
-    let number : m .number ≡ 0 = eqb-true _ _ (second (not (eqb (m .slots) 0)) _ shut (f .empty)) in
+    let shut : not (eqb (m .slots) 0) ≡ false = rw eq-eqb in
+    let number = eqb-true _ _ (second (not (eqb (m .slots) 0)) _ shut (f .empty)) in
     let free : (i : ℕ) → bitSet (m .slots) i ≡ false = λ i. rw slots (bits-above 0 i (pow-pos i)) in
     let holds : (i : ℕ) → i < 16 → slotHolds m i ≡ true = λ i q. slot-clauses m i (f .slots) q in
     let unmarked : (i : ℕ) → i < 16 → bitSet (m .«mag_slots») i ≡ false = λ i q. mag-among m i (holds i q) (free i) in

@@ -1,14 +1,14 @@
 -- What the code makes of its callees' answers is what the definitions of a step say.
 -- Assumes nothing.
-use mathlib.Core.Path.{_≡_, refl, sym, subst, _∙_}
-use mathlib.Core.Bool.{Bool, true, false, not, cond, _&&_, true≢false}
+use mathlib.Core.Path.{_≡_, sym, subst, _∙_}
+use mathlib.Core.Bool.{Bool, true, false, true≢false}
 use Prim.Native.Nat.{ℕ, _+_, _-_, _*_, _/_, _%_, _^_, _<_, _≤_}
 use native.Mathlib.Nat.{div-eq-of-lt, div-lt-iff-lt-mul}
 use native.Mathlib.Omega.{arith}
 use lib.Dec.{eqb}
 use lib.ListN.{set}
 use lib.Pow.{pow-mono, pow-pos}
-use borrow.Author.Tests.{eqb-true, eq-eqb}
+use borrow.Author.Tests.{eqb-true}
 use Rattle.prelude.specs.Marks.{bitSet, marked}
 use Rattle.prelude.proofs.Conds.{two}
 use Rattle.prelude.proofs.Marks.{weight, bits-above, below}
@@ -29,7 +29,7 @@ pub low-marks : (n s : ℕ) → s < 16 → n < 2 ^ 16 → ((i : ℕ) → s ≤ i
 low-marks n s l h f =
     let k = 16 - s in
     let e : 16 ≡ s + k = omega arith in
-    below k s n (subst (λ (j : ℕ). n < 2 ^ j) e h) (λ i p q. f i p (omega arith))
+    below k s n (subst (λ j. n < 2 ^ j) e h) (λ i p q. f i p (omega arith))
 
 pub mag-fits : (m : Major) (d : ℕ) → m .«mag_slots» < 2 ^ 16 → ((i : ℕ) → slotOf d ≤ i → i < 16 → bitSet (m .«mag_slots») i ≡ false)
     → m .«mag_slots» + 1 * 2 ^ slotOf d % 2 ^ 16 < 2 ^ 16
@@ -71,8 +71,8 @@ module _ (m : Major) (d : ℕ) where
   pub free-room : m .«mag_slots» < 2 ^ 16 → Free m d → slotFree m d ≡ true
   unfolding slotFree
   free-room h f =
-      let a : m .slots / 2 ^ slotOf d ≡ 0 = div-eq-of-lt (f .0) in
-      let b : m .«mag_slots» / 2 ^ slotOf d ≡ 0 = div-eq-of-lt (low-marks (m .«mag_slots») (slotOf d) (omega arith) h (f .1)) in
+      let a = div-eq-of-lt (f .0) in
+      let b = div-eq-of-lt (low-marks (m .«mag_slots») (slotOf d) (omega arith) h (f .1)) in
       rw (a, b)
 
 -- the three outcomes of a step

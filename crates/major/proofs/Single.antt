@@ -3,11 +3,10 @@
 use mathlib.Core.Path.{_≡_}
 use mathlib.Core.Bool.{Bool}
 use Prim.Native.Nat.{ℕ}
-use Rattle.prelude.proofs.Single.{one}
 use Rattle.major.specs.Place.{SteppedIs}
 use Rattle.major.specs.declared.Major.{Major}
 use Rattle.major.specs.declared.MajorStep.{MajorStep}
 
 pub one-step : (m : Major) (d : ℕ) (mag : Bool) (range word : ℕ) (x y : MajorStep)
     → SteppedIs m d mag range word x → SteppedIs m d mag range word y → x ≡ y
-one-step m d mag range word x y p q = one (p .is) (q .is)
+one-step m d mag range word x y p q = cc

@@ -11,9 +11,9 @@ use lib.Ieee.{Float}
 use lib.IntN.{ℤ}
 use lib.ListN.{length, getD}
 use borrow.Author.Tests.{eq-eqb, ne-eqb, lt-ltb, le-ltb, eqb-true, ltb-true, not-true, not-false}
-use Rattle.prelude.proofs.Conds.{two}
+use Rattle.prelude.proofs.Conds.{cases, two}
 use Rattle.mag.specs.Samples.{samplesSize}
-use Rattle.mag.specs.Field.{fieldOf, isSample, hasField, fieldGiven, FieldIs, Answered}
+use Rattle.mag.specs.Field.{isSample, hasField, fieldGiven, FieldIs, Answered}
 use Rattle.mag.specs.declared.nominal.Field.{Field}
 use Rattle.mag.specs.declared.nominal.Field.the-variants as field
 use Rattle.cells.specs.Words.{said}
@@ -32,15 +32,15 @@ use Rattle.majors.specs.declared.Word.the-variants as word
 module _ (samples : List ℤ) (s k : ℕ) where
   pub off-size : (length samples ≡ majorSamples → ⊥) → false ≡ isPlace samples s k
   unfolding isPlace
-  off-size h = rw (ne-eqb (length samples) majorSamples h)
+  off-size h = rw ne-eqb
 
   pub off-slot : length samples ≡ majorSamples → slots ≤ s → false ≡ isPlace samples s k
   unfolding isPlace
-  off-slot h l = rw (eq-eqb (length samples) majorSamples h, le-ltb s slots l)
+  off-slot h l = rw (eq-eqb, le-ltb)
 
   pub by-number : length samples ≡ majorSamples → s < slots → ltb k samplesSize ≡ isPlace samples s k
   unfolding isPlace
-  by-number h l = rw (eq-eqb (length samples) majorSamples h, lt-ltb s slots l)
+  by-number h l = rw (eq-eqb, lt-ltb s slots l)
 
   -- what a place is
   pub record Place : Type 0 where
@@ -49,7 +49,7 @@ module _ (samples : List ℤ) (s k : ℕ) where
     pub number : k < samplesSize
 
   pub place-so : (b : Bool) → b ≡ isPlace samples s k → not b ≡ false → isPlace samples s k ≡ true
-  place-so b e h = sym e ∙ not-false b h
+  place-so b e h = cc (not-false b h)
 
   pub is-place : isPlace samples s k ≡ true → Place
   unfolding isPlace
@@ -57,6 +57,9 @@ module _ (samples : List ℤ) (s k : ℕ) where
       let x = two (eqb (length samples) majorSamples) (ltb s slots && ltb k samplesSize) e in
       let y = two (ltb s slots) (ltb k samplesSize) (x .1) in
       record { size = eqb-true (length samples) majorSamples (x .0); slot = ltb-true s slots (y .0); number = ltb-true k samplesSize (y .1) }
+
+  pub place-at : (b : Bool) → b ≡ isPlace samples s k → not b ≡ false → Place
+  place-at b e h = is-place (place-so b e h)
 
 module _ (m : Major) (samples : List ℤ) (s k : ℕ) where
   -- by the two tests
@@ -98,10 +101,10 @@ module _ (m : Major) (samples : List ℤ) (s k : ℕ) where
     has-sample l = rw (sym e ∙ not-false b h, sym q ∙ not-false t l)
 
     pub sample-absent : not t ≡ false → (m .«mag_slots» / 2 ^ s % 2 ≡ 1 → ⊥) → SampleIs m samples s k sample.Absent
-    sample-absent l g = is-sample sample.Absent (rw (has-sample l, ne-eqb (m .«mag_slots» / 2 ^ s % 2) 1 g))
+    sample-absent l g = is-sample sample.Absent (rw (has-sample l, ne-eqb))
 
     pub sample-held : not t ≡ false → m .«mag_slots» / 2 ^ s % 2 ≡ 1 → SampleIs m samples s k (sample.Value (stored samples s k))
-    sample-held l g = is-sample (sample.Value (stored samples s k)) (rw (has-sample l, eq-eqb (m .«mag_slots» / 2 ^ s % 2) 1 g))
+    sample-held l g = is-sample (sample.Value (stored samples s k)) (rw (has-sample l, eq-eqb))
 
 module _ (m : Major) (s : ℕ) where
   abbrev wordBy : Bool → Bool → Word
@@ -122,13 +125,13 @@ module _ (m : Major) (s : ℕ) where
       v false h = refl
 
   pub word-slot : slots ≤ s → WordIs m s word.NoSuchPlace
-  word-slot l = is-word word.NoSuchPlace (rw (le-ltb s slots l))
+  word-slot l = is-word word.NoSuchPlace (rw le-ltb)
 
   pub word-absent : s < slots → (m .slots / 2 ^ s % 2 ≡ 1 → ⊥) → WordIs m s word.Absent
-  word-absent l g = is-word word.Absent (rw (lt-ltb s slots l, ne-eqb (m .slots / 2 ^ s % 2) 1 g))
+  word-absent l g = is-word word.Absent (rw (lt-ltb, ne-eqb))
 
   pub word-held : s < slots → m .slots / 2 ^ s % 2 ≡ 1 → WordIs m s (word.Value (getD (m .words) s 0))
-  word-held l g = is-word (word.Value (getD (m .words) s 0)) (rw (lt-ltb s slots l, eq-eqb (m .slots / 2 ^ s % 2) 1 g))
+  word-held l g = is-word (word.Value (getD (m .words) s 0)) (rw (lt-ltb, eq-eqb))
 
 module _ (m : Major) (samples : List ℤ) (s k : ℕ) where
   abbrev nominalBy : Bool → Bool → Nominal
@@ -156,7 +159,7 @@ module _ (m : Major) (samples : List ℤ) (s k : ℕ) where
 
   -- an answer that gives none has no field to be exact
   none-given : (x : Nominal) → nominalGiven x ≡ none → (y : Float) → nominalGiven x ≡ some y → FieldIs (stored samples s k) (getD (m .ranges) s 0) y
-  none-given x e y q = let d : none ≡ some y = sym e ∙ q in let z : _≡_ {A = ℕ} 0 1 = cc in absurd (omega arith)
+  none-given x e y q = let d = sym e ∙ q in let z : _≡_ {A = ℕ} 0 1 = cc in absurd (omega arith)
 
   no-nominal : hasNominal m samples s k ≡ false → NominalIs m samples s k nominal.NoSuchPlace
   unfolding nominalGiven
@@ -172,20 +175,16 @@ module _ (m : Major) (samples : List ℤ) (s k : ℕ) where
       where
         go : (t : Bool) → hasField (stored samples s k) (getD (m .ranges) s 0) ≡ t → hasField (stored samples s k) (getD (m .ranges) s 0) ≡ false
         go false t = t
-        go true t =
-            let d : field.NoSuchPlace ≡ field.Nanotesla (fieldAt m samples s k) = sym e ∙ a .is ∙ rw t in
-            let z : _≡_ {A = ℕ} 0 1 = cc in
-            absurd (omega arith)
+        go true t = cc
 
     inside : (x : Float) → f ≡ field.Nanotesla x → hasField (stored samples s k) (getD (m .ranges) s 0) ≡ true
-    inside x e = go (hasField (stored samples s k) (getD (m .ranges) s 0)) refl
-      where
-        go : (t : Bool) → hasField (stored samples s k) (getD (m .ranges) s 0) ≡ t → hasField (stored samples s k) (getD (m .ranges) s 0) ≡ true
-        go true t = t
-        go false t =
-            let d : field.Nanotesla x ≡ field.NoSuchPlace = sym e ∙ a .is ∙ rw t in
-            let z : _≡_ {A = ℕ} 0 1 = cc in
-            absurd (omega arith)
+    inside x e =
+        cases (hasField (stored samples s k) (getD (m .ranges) s 0))
+        (λ t. t)
+        (λ t.
+        let d : field.Nanotesla x ≡ field.NoSuchPlace = sym e ∙ a .is ∙ rw t in
+        let z : _≡_ {A = ℕ} 0 1 = cc in
+        absurd (omega arith))
 
     pub nominal-outside : f ≡ field.NoSuchPlace → NominalIs m samples s k nominal.NoSuchPlace
     unfolding hasNominal
@@ -197,7 +196,7 @@ module _ (m : Major) (samples : List ℤ) (s k : ℕ) where
 
     pub nominal-absent : (x : Float) → f ≡ field.Nanotesla x → (m .«mag_slots» / 2 ^ s % 2 ≡ 1 → ⊥) → NominalIs m samples s k nominal.Absent
     unfolding nominalGiven
-    nominal-absent x e g = is-nominal nominal.Absent (rw (has-nominal x e, ne-eqb (m .«mag_slots» / 2 ^ s % 2) 1 g)) (none-given nominal.Absent refl)
+    nominal-absent x e g = is-nominal nominal.Absent (rw (has-nominal x e, ne-eqb)) (none-given nominal.Absent refl)
 
     pub nominal-held : (x : Float) → f ≡ field.Nanotesla x → m .«mag_slots» / 2 ^ s % 2 ≡ 1 → NominalIs m samples s k (nominal.Nanotesla x)
     unfolding nominalGiven fieldGiven
@@ -205,5 +204,5 @@ module _ (m : Major) (samples : List ℤ) (s k : ℕ) where
         let d : field.Nanotesla x ≡ field.Nanotesla (fieldAt m samples s k) = sym e ∙ a .is ∙ rw (inside x e) in
         let v : x ≡ fieldAt m samples s k = cc in
         is-nominal (nominal.Nanotesla x)
-        (rw (has-nominal x e, eq-eqb (m .«mag_slots» / 2 ^ s % 2) 1 g) (ap nominal.Nanotesla v))
+        (rw (has-nominal x e, eq-eqb) (ap nominal.Nanotesla v))
         (λ y q. a .exact y (ap fieldGiven e ∙ q))

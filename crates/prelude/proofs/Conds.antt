@@ -1,4 +1,4 @@
--- Laws of tests: a function of one of two values, both of two tests, one of two, a test that a callee made.
+-- Laws of tests: a function of one of two values, either answer of a test, both of two tests, one of two, a test that a callee made.
 -- Assumes nothing.
 use mathlib.Core.Path.{_≡_, refl, sym, _∙_}
 use mathlib.Core.Bool.{Bool, true, false, cond, not, _&&_, _||_, false≢true}
@@ -11,6 +11,11 @@ cond-of f false a b = refl
 pub two : (a b : Bool) → (a && b) ≡ true → (a ≡ true) × (b ≡ true)
 two true b e = (refl, e)
 two false b e = absurd (false≢true e)
+
+-- what follows from either answer of a test
+pub cases {ℓ} : {P : Type ℓ} (t : Bool) → (t ≡ true → P) → (t ≡ false → P) → P
+cases true y n = y refl
+cases false y n = n refl
 
 -- one of two, the first of which doesn't hold
 pub second : (a b : Bool) → a ≡ false → (a || b) ≡ true → b ≡ true

@@ -8,7 +8,7 @@ use native.Mathlib.Omega.{arith}
 use borrow.Author.Tests.{eqb-true, eq-eqb}
 use Rattle.prelude.specs.Marks.{bitSet, highest}
 use Rattle.prelude.specs.Rules.{rule, holdsIn, allHold, ofPart}
-use Rattle.prelude.proofs.Conds.{two}
+use Rattle.prelude.proofs.Conds.{cases, two}
 use Rattle.prelude.proofs.Order.{idle-behind}
 use Rattle.prelude.proofs.Upto.{somewhere-at, nowhere}
 use Rattle.record.specs.Frame.{carriesScience}
@@ -34,7 +34,7 @@ use Rattle.reader.specs.Steps.{input, stepped}
 
 -- no two types carry one cell
 only : (t u p : ℕ) → t < types → u < types → carriesCell t p ≡ true → carriesCell u p ≡ true → t ≡ u
-only t u p h l e f = sym (eqb-true (carrier p) t (sym (had-is t p h) ∙ e)) ∙ eqb-true (carrier p) u (sym (had-is u p l) ∙ f)
+only t u p h l e f = cc (eqb-true (carrier p) t (sym (had-is t p h) ∙ e), eqb-true (carrier p) u (sym (had-is u p l) ∙ f))
 
 -- a cell of a type that isn't held is held by no other type
 unheld : (held u p : ℕ) → u < types → bitSet held u ≡ false → (carriesCell u p && cellHeld held p) ≡ false
@@ -56,17 +56,16 @@ unheld held u p h s = go (carriesCell u p) refl
 own : (held u : ℕ) → u < types → bitSet held u ≡ true → (carriesCell u (place u 0) && cellHeld held (place u 0)) ≡ true
 own held u h s =
     let p = place u 0 in
-    let c : carriesCell u p ≡ true = had-is u p h ∙ eq-eqb (carrier p) u (carrier-place u 0 h (omega arith)) in
+    let c = had-is u p h ∙ eq-eqb (carrier p) u (carrier-place u 0 h (omega arith)) in
     let k : cellHeld held p ≡ true = somewhere-at _ types u h (rw (s, c)) in
     rw (c, k)
 
 pub cells-by-mark : CellsByMark
 unfolding alreadyHeld
-cells-by-mark held u h = go (bitSet held u) refl
-  where
-    go : (b : Bool) → bitSet held u ≡ b → alreadyHeld held u ≡ b
-    go true s = somewhere-at _ cells (place u 0) (place-cell u 0 h (omega arith)) (own held u h s)
-    go false s = nowhere _ cells (λ p l. unheld held u p h s)
+cells-by-mark held u h =
+    cases (bitSet held u)
+    (λ s. rw s (somewhere-at _ cells (place u 0) (place-cell u 0 h (omega arith)) (own held u h s)))
+    (λ s. rw s (nowhere _ cells (λ p l. unheld held u p h s)))
 
 -- a frame with science is of one of the 36 types
 pub by-mark : ByMark
@@ -81,11 +80,7 @@ by-mark i = go (carriesScience (fieldsOf i .kind)) (science-type (i .bytes))
 
 -- a frame that joins is of a type that isn't held
 free : (a : Accumulation) (u d : ℕ) → framesAmong a ≡ true → joins a u d ≡ true → bitSet (a .held) u ≡ false
-free a u d f e = go (bitSet (a .held) u) refl
-  where
-    go : (b : Bool) → bitSet (a .held) u ≡ b → b ≡ false
-    go true s = absurd (omega (arith, types-rise a u d f e u s))
-    go false s = refl
+free a u d f e = cases (bitSet (a .held) u) (λ s. rw s (absurd (omega (arith, types-rise a u d f e u s)))) (λ s. rw s)
 
 among : (s : State) → sound s ≡ true → framesAmong (s .accumulation) ≡ true
 among s e = frames (s .clock) (s .accumulation) (facts s e .accumulation) .among
@@ -104,7 +99,7 @@ cant-hit s e b r = by-mark i ∙ go (carriesScience (fieldsOf i .kind)) (joinsOp
 hits : (c : Bool) (a : Accumulation) (u d : ℕ) → c ≡ true → a ≡ unsound → u ≡ 6 → d ≡ 101
     → not (c && (joins a u d && bitSet (a .held) u)) ≡ false
 unfolding joins
-hits c a u d p q r s = rw (p, q, r, s)
+hits c a u d p q r s = cc
 
 pub can-hit : CanHit
 unfolding framesAmong highest

@@ -18,7 +18,7 @@ use Rattle.reader.specs.Buffers.{Buffers, sizedBy, sized, copiedBy, clea
 
 -- a copy between two of one size
 pub is-copied {ℓ} : {A : Type ℓ} (t : Bool) (s d e : List A) → t ≡ true → length s ≡ length d → e ≡ copied s d → e ≡ copiedBy t s d
-is-copied t s d e h l q = rw h (q ∙ rw (eq-eqb (length s) (length d) l))
+is-copied t s d e h l q = rw h (q ∙ rw eq-eqb)
 
 pub length-cleared {ℓ} : {A : Type ℓ} (t : Bool) (z : A) (d : List A) → length (clearedBy t z d) ≡ length d
 length-cleared true z d = length-replicate (length d) z
@@ -54,7 +54,7 @@ sizes b e =
 
 pub is-sized : (b : Buffers) → Sizes b → sized b ≡ true
 unfolding sizedBy
-is-sized b z = rw (z .cells, z .finished-cells, z .samples, z .finished-samples, z .snapshot, z .first-snapshot, z .second-snapshot)
+is-sized b z = cc
 
 -- a buffer after a burst packet's work is as long as before
 pub packet-length : (w : PacketWork) (s c : List ℕ) → (w .work .lays ≡ true → w .at + length s ≤ length c) → length (packetAfter w s c) ≡ length c

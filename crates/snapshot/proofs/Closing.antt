@@ -20,11 +20,11 @@ abbrev pub PacketCloses : Work → SnapshotReport → Type 0
 PacketCloses = Closes (λ (r : SnapshotReport). r .closed) unreported
 
 pub no-packet : (b c : Bool) → PacketCloses (record { copies = false; clears = b; lays = c }) unreported
-no-packet b c = closes-none (λ (r : SnapshotReport). r .closed) unreported refl b c
+no-packet b c = closes-none (λ r. r .closed) unreported refl b c
 
 pub packets-report : (s : Snapshot) (b c : Bool) → (isOpen s ≡ true → b ≡ true)
     → PacketCloses (record { copies = isOpen s; clears = b; lays = c }) (reported s)
-packets-report s b c h = closes (λ (r : SnapshotReport). r .closed) unreported refl b c _ refl (isOpen s) h
+packets-report s b c h = closes (λ r. r .closed) unreported refl b c _ refl (isOpen s) h
 
 module _ (s : Snapshot) (d code : ℕ) where
   pub packet-closes : PacketCloses (stepPacket s d code .work .work) (stepPacket s d code .report)

@@ -39,7 +39,7 @@ packets-in c s e =
 
 pub is-sound : (c : Clock) (s : Snapshot) → Packets c s → snapshotSound c s ≡ true
 unfolding snapshotSound
-is-sound c s f = rw (f .among, f .highest-last, f .fits, f .shut) (f .start)
+is-sound c s f = cc
 
 pub below-20 : (s : Snapshot) → packetsAmong s ≡ true → s .held < 2 ^ packets
 unfolding packetsAmong
@@ -50,7 +50,7 @@ unfolding firstFits
 first-last c s e = leb-true (s .first) (c .last) e
 
 pub is-open : (s : Snapshot) → isOpen s ≡ true → s .held ≡ 0 → ⊥
-is-open s e z = let y : not (eqb (s .held) 0) ≡ false = rw (eq-eqb (s .held) 0 z) in true≢false (sym e ∙ y)
+is-open s e z = let y : not (eqb (s .held) 0) ≡ false = rw eq-eqb in true≢false (sym e ∙ y)
 
 -- an open one's last type is one of a snapshot's, and its mark the highest
 module _ (s : Snapshot) (e : lastHighest s ≡ true) (z : s .held ≡ 0 → ⊥) where
@@ -71,12 +71,12 @@ pub record Nought (s : Snapshot) : Type 0 where
 
 not-cut : (b : Bool) → not b ≡ true → b ≡ false
 not-cut false e = refl
-not-cut true e = absurd (true≢false (sym e))
+not-cut true e = cc
 
 pub none-zero : (s : Snapshot) → noneOpen s ≡ true → s .held ≡ 0 → Nought s
 unfolding noneOpen
 none-zero s e z =
-    let n : not (eqb (s .held) 0) ≡ false = rw (eq-eqb (s .held) 0 z) in
+    let n : not (eqb (s .held) 0) ≡ false = rw eq-eqb in
     let p = two (eqb (s .first) 0) _ (second (not (eqb (s .held) 0)) _ n e) in
     let q = two (eqb (s .«last_type») 0) (not (s .cut)) (p .1) in
     record { first-is = eqb-true _ _ (p .0); type-is = eqb-true _ _ (q .0); cut-is = not-cut (s .cut) (q .1) }
@@ -86,7 +86,7 @@ pub type-above : (s : Snapshot) → s .held < 2 ^ 32 → (s .held ≡ 0 → ⊥)
     → false ≡ lastHighest s
 unfolding lastHighest
 type-above s h z f l =
-    rw (ne-eqb (s .held) 0 z, le-leb firstPacket (s .«last_type») f, none-above 32 (s .«last_type» - firstPacket) (s .held) h (omega arith))
+    rw (ne-eqb, le-leb, none-above 32 (s .«last_type» - firstPacket) (s .held) h (omega arith))
 
 -- the type of a snapshot's packet
 module _ (code : ℕ) (e : isPart code ≡ true) where
@@ -97,14 +97,14 @@ module _ (code : ℕ) (e : isPart code ≡ true) where
   part-to = unfold isPart in leb-true (packetType code) 55 (two (leb firstPacket (packetType code)) _ e .1)
 
   pub mark-small : markOf code < packets
-  mark-small = omega (arith, part-from, part-to)
+  mark-small = omega (arith, part-to)
 
   pub mark-weight : 2 ^ markOf code ≤ 2 ^ 19
   mark-weight = pow-mono {i = markOf code} {j = 19} (omega (arith, mark-small))
 
   -- as a shift of 1 makes it
   pub mark-shift : 1 * 2 ^ markOf code % 2 ^ 32 ≡ 2 ^ markOf code
-  mark-shift = weight 32 (markOf code) (omega (arith, mark-small))
+  mark-shift = weight 32 (markOf code) (omega arith)
 
 -- what joining tells
 pub joins-open : (s : Snapshot) (code : ℕ) → joins s code ≡ true → s .held ≡ 0 → ⊥
@@ -122,7 +122,7 @@ below-mark s code f e =
     let h = last-mark s f z in
     let up = joins-above s code e in
     let last = s .«last_type» - firstPacket in
-    omega (arith, highest-high (s .held) last h, pow-mono {i = last + 1} {j = markOf code} (omega (arith, last-from s f z, up)))
+    omega (arith, highest-high (s .held) last h, pow-mono {i = last + 1} {j = markOf code} (omega (arith, last-from s f z)))
 
 -- what a packet's step makes of the marks, by its tests
 abbrev pub by : Snapshot → ℕ → ℕ → Bool → Bool → PacketStep

@@ -8,6 +8,7 @@ use native.Mathlib.Omega.{arith}
 use lib.Dec.{eqb}
 use lib.Pow.{pow-mono, pow-pos}
 use borrow.Author.Tests.{eqb-true, eqb-false, ne-eqb, lt-ltb, le-leb}
+use Rattle.prelude.proofs.Conds.{cases}
 use Rattle.prelude.specs.Marks.{marked}
 use Rattle.prelude.proofs.Marks.{highest-marked, marked-below, marked-some}
 use Rattle.bursts.specs.Bursts.{firstPacket, packets}
@@ -30,7 +31,7 @@ marks-keep code d first held e l h =
     let z : m ≡ 0 → ⊥ = λ q. omega (arith, marked-some held u) in
     record {
       among = lt-ltb m (2 ^ packets) n;
-      highest-last = rw (le-leb firstPacket (packetType code) (part-from code e), highest-marked held u h) (or-true (eqb m 0));
+      highest-last = rw (le-leb firstPacket (packetType code) (part-from code e), highest-marked) (or-true (eqb m 0));
       fits = le-leb first d l;
       shut = rw (ne-eqb m 0 z);
       start = refl;
@@ -54,11 +55,10 @@ cut-keeps c s b d f l = record {
 
 -- the first count of an open snapshot lies before every later one
 first-before : (c : Clock) (s : Snapshot) (d : ℕ) → Packets c s → (c .any ≡ true → c .last < d) → s .first ≤ d
-first-before c s d f above = go (eqb (s .held) 0) refl
-  where
-    go : (t : Bool) → eqb (s .held) 0 ≡ t → s .first ≤ d
-    go true t = omega (arith, none-zero s (f .shut) (eqb-true (s .held) 0 t) .first-is)
-    go false t = omega (arith, first-last c s (f .fits), above (has-begun c (s .held) (f .start) (eqb-false (s .held) 0 t)))
+first-before c s d f above =
+    cases (eqb (s .held) 0)
+    (λ t. omega (arith, none-zero s (f .shut) (eqb-true (s .held) 0 t) .first-is))
+    (λ t. omega (arith, first-last c s (f .fits), above (has-begun c (s .held) (f .start) (eqb-false (s .held) 0 t))))
 
 -- a packet at count d, once that is the last accepted
 packet-keeps : (s : Snapshot) (d code : ℕ) → Packets (accepted d) s → Packets (accepted d) (stepPacket s d code .next)
@@ -95,7 +95,7 @@ step-sound c s d one two e above =
 -- until something is accepted there is none
 all-zero : (first held type : ℕ) (cut : Bool) → first ≡ 0 → held ≡ 0 → type ≡ 0 → cut ≡ false
     → _≡_ {A = Snapshot} (record { first = first; held = held; «last_type» = type; cut = cut }) noSnapshot
-all-zero first held type cut a b c d = rw (a, b, c, d)
+all-zero first held type cut a b c d = cc
 
 pub unstarted : (c : Clock) (s : Snapshot) → snapshotSound c s ≡ true → c .any ≡ false → s ≡ noSnapshot
 unstarted c s e n =

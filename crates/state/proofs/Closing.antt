@@ -1,24 +1,25 @@
 -- An open buffer is copied to the finished one just when something is reported as closed; what isn't closed is all 0.
 -- Assumes nothing.
-use mathlib.Core.Path.{_≡_, refl, sym, ap, subst⁻¹, _∙_}
+use mathlib.Core.Path.{_≡_, sym, ap, _∙_}
 use native.Mathlib.Omega.{arith}
 use mathlib.Core.Bool.{Bool, true, false, cond, _&&_}
 use Prim.Native.Nat.{ℕ}
 use lib.Dec.{eqb}
 use borrow.Author.Tests.{eqb-true, eqb-false}
-use Rattle.prelude.proofs.Conds.{two}
+use borrow.Author.Needs.{needs}
+use Rattle.prelude.proofs.Conds.{cases, two}
 use Rattle.accumulation.specs.Accumulation.{isOpen, clearsFor, laysFor}
 use Rattle.accumulation.specs.declared.GapDecision.{GapDecision}
 use Rattle.accumulation.specs.declared.GapDecision.the-variants.{Neither}
 use Rattle.accumulation.proofs.Closing as accumulation
-use Rattle.accumulation.proofs.Closing.{FramesClose, frames-report, no-frames, by-gap}
+use Rattle.accumulation.proofs.Closing.{FramesClose, frames-report, by-gap}
 use Rattle.major.specs.Major.{majorOpen}
 use Rattle.major.proofs.Closing as major
-use Rattle.major.proofs.Closing.{MajorCloses, major-report, no-major}
+use Rattle.major.proofs.Closing.{MajorCloses, major-report}
 use Rattle.buffers.specs.Working.{noWork}
 use Rattle.snapshot.specs.Snapshot.{packetWork}
 use Rattle.snapshot.proofs.Closing as snapshot
-use Rattle.snapshot.proofs.Closing.{SnapshotsClose, no-snapshots}
+use Rattle.snapshot.proofs.Closing.{SnapshotsClose}
 use Rattle.state.specs.Closed.{nothingClosed, noWorks}
 use Rattle.state.specs.Soundness.{sound}
 use Rattle.state.specs.Deciding.{Input, numberOf, acceptance, decidedOf}
@@ -41,20 +42,19 @@ pub record Closes (w : Works) (x : Closed) : Type 0 where
   pub snapshots : SnapshotsClose (w .one) (w .two) (x .«first_snapshot») (x .«second_snapshot»)
 
 nothing : Closes noWorks nothingClosed
-nothing = record { samples = no-major false false; cells = no-frames false false; snapshots = no-snapshots }
+nothing = search needs
 
 abbrev DecidedCloses : Decided → Type 0
 DecidedCloses x = Closes (x .works) (x .stepped .closed)
 
 pub step-closes : (i : Input) → DecidedCloses (decidedOf i)
 unfolding acceptance
-step-closes i = go (eqb (numberOf i) 0) refl
-  where
-    go : (t : Bool) → eqb (numberOf i) 0 ≡ t → DecidedCloses (decidedOf i)
-    go true t =
-        subst⁻¹ DecidedCloses (accepted-is i (eqb-true (numberOf i) 0 t))
-        (record { samples = major.step-closes _ _ _ _ _; cells = accumulation.step-closes _ _ _ _; snapshots = snapshot.step-closes _ _ _ _ _ })
-    go false t = subst⁻¹ DecidedCloses (refused-is i (eqb-false (numberOf i) 0 t)) nothing
+step-closes i =
+    cases (eqb (numberOf i) 0)
+    (λ t.
+    rw (accepted-is i (eqb-true (numberOf i) 0 t))
+    (record { samples = major.step-closes _ _ _ _ _; cells = accumulation.step-closes _ _ _ _; snapshots = snapshot.step-closes _ _ _ _ _ }))
+    (λ t. rw (refused-is i (eqb-false (numberOf i) 0 t)) nothing)
 
 pub end-closes : (s : State) (sized : Bool) → Closes (endedOf s sized .works) (endedOf s sized .finished .closed)
 unfolding endedOf
@@ -84,26 +84,8 @@ unfolding endedOf
 end-clears s sized = go (sized && sound s)
   where
     go : (t : Bool) → Ends (cond t (ending s) (unended s) .works)
-    go true = record {
-      samples-cleared = refl;
-      samples-laid = refl;
-      cells-cleared = refl;
-      cells-laid = refl;
-      slot = refl;
-      one-cleared = refl;
-      one-laid = refl;
-      two-none = refl;
-    }
-    go false = record {
-      samples-cleared = refl;
-      samples-laid = refl;
-      cells-cleared = refl;
-      cells-laid = refl;
-      slot = refl;
-      one-cleared = refl;
-      one-laid = refl;
-      two-none = refl;
-    }
+    go true = search needs
+    go false = search needs
 
 -- once finished nothing is open: a second finish is done too, changes nothing and closes nothing
 pub second-end : (s : State) (sized : Bool) → Sound s → (sized && sound s) ≡ true
@@ -122,20 +104,16 @@ taken-gap (Accepted t) = t .gap
 pub cells-by-gap : (i : Input) (t : Taken) → decidedOf i .stepped .answer ≡ Accepted t
     → (decidedOf i .works .cells .clears ≡ clearsFor (t .gap)) × (decidedOf i .works .cells .lays ≡ laysFor (t .gap))
 unfolding acceptance
-cells-by-gap i t e = go (eqb (numberOf i) 0) refl
-  where
-    go : (b : Bool) → eqb (numberOf i) 0 ≡ b
-        → (decidedOf i .works .cells .clears ≡ clearsFor (t .gap)) × (decidedOf i .works .cells .lays ≡ laysFor (t .gap))
-    go true b =
-        let q = accepted-is i (eqb-true (numberOf i) 0 b) in
-        let g : t .gap ≡ taken-gap (decidedOf i .stepped .answer) = sym (ap taken-gap e) in
-        let h = g ∙ ap (λ (x : Decided). taken-gap (x .stepped .answer)) q in
-        let k = by-gap (i .state .accumulation) _ _ _ in (
-          ap (λ (x : Decided). x .works .cells .clears) q ∙ k .0 ∙ ap clearsFor (sym h),
-          ap (λ (x : Decided). x .works .cells .lays) q ∙ k .1 ∙ ap laysFor (sym h),
-        )
-    go false b =
-        let r = refused-is i (eqb-false (numberOf i) 0 b) in
-        let q : Accepted t ≡ Refused (numberOf i) = sym e ∙ ap (λ (x : Decided). x .stepped .answer) r in
-        let z : _≡_ {A = ℕ} 0 1 = cc in
-        absurd (omega arith)
+cells-by-gap i t e =
+    cases (eqb (numberOf i) 0)
+    (λ b.
+    let q = accepted-is i (eqb-true (numberOf i) 0 b) in
+    let g = sym (ap taken-gap e) in
+    let h = g ∙ ap (λ (x : Decided). taken-gap (x .stepped .answer)) q in
+    let k = by-gap (i .state .accumulation) _ _ _ in
+    (ap (λ (x : Decided). x .works .cells .clears) q ∙ k .0 ∙ ap clearsFor (sym h), ap (λ (x : Decided). x .works .cells .lays) q ∙ k .1 ∙ ap laysFor (sym h)))
+    (λ b.
+    let r = refused-is i (eqb-false (numberOf i) 0 b) in
+    let q = sym e ∙ ap (λ (x : Decided). x .stepped .answer) r in
+    let z : _≡_ {A = ℕ} 0 1 = cc in
+    absurd (omega arith))

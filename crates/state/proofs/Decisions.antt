@@ -1,11 +1,10 @@
 -- The number that a record gets, and the decision that the code comes to.
 -- Assumes nothing.
 use mathlib.Core.Path.{_≡_, refl, sym, ap, _∙_}
-use mathlib.Core.Bool.{Bool, true, false, not, cond, _&&_, false≢true}
+use mathlib.Core.Bool.{Bool, true, false, not, cond, _&&_}
 use mathlib.Core.List.{List, [], _∷_}
 use Prim.Native.Nat.{ℕ, _<_}
 use native.Mathlib.Omega.{arith}
-use lib.Arith.{lt-of-le-ne}
 use lib.Dec.{eqb}
 use lib.ListN.{length, length-take, length-drop}
 use borrow.Author.Tests.{eq-eqb, ne-eqb}
@@ -33,8 +32,8 @@ late i = cond (clockHolds i) (cond (turnHolds i) 0 14) 12
 pub number-is : (i : Input) → numberOf i ≡ cond (stateHolds i) (cond (eqb (broken (i .bytes)) 0) (late i) (broken (i .bytes))) 1
 unfolding numberOf readerRules firstBroken broken rules
 number-is i =
-    let own = parts-then (λ (i : Input). i .bytes) rules (rule 12 clockHolds ∷ rule 14 turnHolds ∷ []) i refl in
-    ap (λ (n : ℕ). cond (stateHolds i) n 1) own
+    let own = parts-then (λ i. i .bytes) rules (rule 12 clockHolds ∷ rule 14 turnHolds ∷ []) i refl in
+    ap (λ n. cond (stateHolds i) n 1) own
 
 -- refused with n exactly when rule n fails and those before it in the list hold
 pub exactly : (i : Input) → FirstBroken readerRules i (numberOf i)
@@ -44,11 +43,11 @@ exactly i = first-broken readerRules i refl
 -- the decision on a record that no rule refuses, and on one that is refused
 pub accepted-is : (i : Input) → numberOf i ≡ 0 → decidedOf i ≡ acceptance (i .state) (fieldsOf i) (countAt i) (magRange i)
 unfolding decidedOf
-accepted-is i e = rw (eq-eqb (numberOf i) 0 e)
+accepted-is i e = cc
 
 pub refused-is : (i : Input) → (numberOf i ≡ 0 → ⊥) → decidedOf i ≡ refusal (i .state) (numberOf i)
 unfolding decidedOf
-refused-is i h = rw (ne-eqb (numberOf i) 0 h)
+refused-is i h = rw ne-eqb
 
 -- the number of a refusal, and of an acceptance
 refusal-number : (s : State) (n : ℕ) → answerNumber (refusal s n .stepped .answer) ≡ n
@@ -65,8 +64,8 @@ module _ (s : State) (sized : Bool) (r : List ℕ) (x : Decided) where
 
   is-refused : (n : ℕ) → numberOf handed ≡ n → 0 < n → x ≡ refusal s n → DecidedIs s sized r x
   is-refused n e h q = record {
-    is = q ∙ sym (refused-is handed (λ z. omega arith) ∙ ap (λ (k : ℕ). refusal s k) e);
-    number = ap (λ (y : Decided). answerNumber (y .stepped .answer)) q ∙ refusal-number s n ∙ sym e;
+    is = q ∙ sym (refused-is handed (λ z. omega arith) ∙ ap (λ k. refusal s k) e);
+    number = ap (λ y. answerNumber (y .stepped .answer)) q ∙ refusal-number s n ∙ sym e;
   }
 
   -- rule 1
@@ -109,7 +108,7 @@ module _ (s : State) (sized : Bool) (r : List ℕ) (x : Decided) where
 module _ (r p m : List ℕ) (h : length r ≡ size) (from at place : ℕ × ℕ) (ep : PacketAtIs r from p at) (em : MagIs p at m place) where
   pub mag-is : m ≡ magBytes (packetBytes r)
   mag-is =
-      let e : p ≡ packetBytes r = ep .bytes ∙ rw (eq-eqb (length r) size h) in
+      let e : p ≡ packetBytes r = ep .bytes ∙ rw eq-eqb in
       let l : length p ≡ packetSize = ap length e ∙ simp (length-take, length-drop) (omega arith) in
       em .bytes ∙ rw (eq-eqb (length p) packetSize l) (ap magBytes e)
 
@@ -117,7 +116,7 @@ module _ (r m : List ℕ) (h : length r ≡ size) (e : m ≡ magBytes (packetByt
   range-told : u ≡ unpacked.Range (range m)
   range-told =
       let l : length m ≡ 82 = ap length e ∙ simp (length-take, length-drop) (omega arith) in
-      is .is ∙ rw (eq-eqb (length m) 82 l)
+      is .is ∙ rw eq-eqb
 
   pub range-so : (n : ℕ) → u ≡ unpacked.Range n → n ≡ range (magBytes (packetBytes r))
   range-so n q = let k = range-told in let z : n ≡ range m = cc in z ∙ ap range e
@@ -130,9 +129,9 @@ unfolding recordOf
 type-below r = omega arith
 
 pub above-0 : {n : ℕ} → (n ≡ 0 → ⊥) → 0 < n
-above-0 {n} h = lt-of-le-ne (omega arith) (λ e. h (sym e))
+above-0 {n} h = omega arith
 
 -- an earlier test that failed
 pub off : (a b : Bool) → not a ≡ true → (a && b) ≡ false
 off false b e = refl
-off true b e = absurd (false≢true e)
+off true b e = cc

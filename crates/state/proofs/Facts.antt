@@ -1,6 +1,6 @@
 -- What a state that passes the list is known to be, and what a record at a later count finds in it.
 -- Assumes nothing.
-use mathlib.Core.Path.{_≡_, _∙_}
+use mathlib.Core.Path.{_≡_}
 use mathlib.Core.Bool.{true}
 use Prim.Native.Nat.{ℕ, _<_}
 use Rattle.prelude.proofs.Conds.{two}
@@ -42,7 +42,7 @@ facts s e =
 
 pub is-sound : (s : State) → SoundParts s → sound s ≡ true
 unfolding sound
-is-sound s f = rw (f .clock, f .accumulation, f .major) (f .snapshot)
+is-sound s f = cc
 
 pub ready : (s : State) (f : Record) (d : ℕ) → sound s ≡ true → isLater (s .clock) f ≡ true → d ≡ dated (s .clock) f → f .«frame_type» < 64
     → Ready s f d
@@ -52,11 +52,11 @@ ready s f d e l q h = record { passes = e; above = λ a. rw q (dated-above (s .c
 module _ (s : State) (f : Record) (d : ℕ) (r : Ready s f d) where
   pub accumulation-here : (x : AccumulationStep) → x ≡ accumulation.steppedAt (s .accumulation) (carriesScience (f .kind)) (f .«frame_type») d
       → x ≡ inAccumulation s f d
-  accumulation-here x e = e ∙ step-is (s .clock) (s .accumulation) (facts s (r .passes) .accumulation) d (r .above) _ _ (r .kind)
+  accumulation-here x e = cc (step-is (s .clock) (s .accumulation) (facts s (r .passes) .accumulation) d (r .above) _ _ (r .kind))
 
   pub major-here : (k : ℕ) (x : MajorStep) → major.SteppedIs (s .major) d (carriesMag (f .kind)) k (f .subcom) x → x ≡ inMajor s f d k
   major-here k x e = e .within (is-free (s .clock) (s .major) d (facts s (r .passes) .major) (r .above))
 
   pub snapshot-here : (x : SnapshotStep)
       → x ≡ snapshot.steppedAt (s .clock) (s .snapshot) d (firstBurst (f .kind) (f .«frame_code»)) (f .«second_code») → x ≡ inSnapshot s f d
-  snapshot-here x e = e ∙ snapshots.step-is (s .clock) (s .clock) (s .snapshot) d _ _ (facts s (r .passes) .snapshot)
+  snapshot-here x e = cc (snapshots.step-is (s .clock) (s .clock) (s .snapshot) d _ _ (facts s (r .passes) .snapshot))

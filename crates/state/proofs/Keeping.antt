@@ -1,12 +1,13 @@
 -- The state list is kept by step and finish.
 -- Assumes nothing.
-use mathlib.Core.Path.{_≡_, refl, subst⁻¹}
+use mathlib.Core.Path.{_≡_, subst⁻¹}
 use mathlib.Core.Bool.{Bool, true, false, cond, _&&_}
 use Prim.Native.Nat.{_<_}
 use native.Mathlib.Omega.{arith}
 use lib.Dec.{eqb}
 use borrow.Author.Tests.{eqb-true, eqb-false}
 use Rattle.clock.specs.Clock.{fullCounts, unset, isLater, hasTurn, clockSound}
+use Rattle.prelude.proofs.Conds.{cases}
 use Rattle.clock.specs.declared.Clock.{Clock}
 use Rattle.clock.proofs.Laws.{dated-above, dated-below, accepted-sound, unset-sound, unset-is}
 use Rattle.accumulation.specs.Accumulation.{noAccumulation}
@@ -84,13 +85,12 @@ module _ (i : Input) (kept : Sound (i .state)) (p : Passed i) where
 
 -- every state that step hands back from one that passes, passes
 pub step-sound : (i : Input) → StepKeeps i
-step-sound i kept = go (eqb (numberOf i) 0) refl
-  where
-    go : (t : Bool) → eqb (numberOf i) 0 ≡ t → Sound (decidedOf i .stepped .state)
-    go true t =
-        let e = eqb-true (numberOf i) 0 t in
-        subst⁻¹ (λ (x : Decided). Sound (x .stepped .state)) (accepted-is i e) (acceptance-sound i kept (all-pass i e))
-    go false t = subst⁻¹ (λ (x : Decided). Sound (x .stepped .state)) (refused-is i (eqb-false (numberOf i) 0 t)) kept
+step-sound i kept =
+    cases (eqb (numberOf i) 0)
+    (λ t.
+    let e = eqb-true (numberOf i) 0 t in
+    subst⁻¹ (λ x. Sound (x .stepped .state)) (accepted-is i e) (acceptance-sound i kept (all-pass i e)))
+    (λ t. subst⁻¹ (λ x. Sound (x .stepped .state)) (refused-is i (eqb-false (numberOf i) 0 t)) kept)
 
 pub ended-sound : (s : State) → Sound s → Sound (ending s .finished .state)
 ended-sound s kept = none-sound (s .clock) (facts s (kept .passes) .clock)
@@ -106,7 +106,7 @@ end-sound s sized kept = go (sized && sound s)
 
 all-none : (c : Clock) (a : Accumulation) (m : Major) (s : Snapshot) → c ≡ unset → a ≡ noAccumulation → m ≡ noMajor → s ≡ noSnapshot
     → _≡_ {A = State} (record { clock = c; accumulation = a; major = m; snapshot = s }) fresh
-all-none c a m s p q r t = rw (p, q, r, t)
+all-none c a m s p q r t = cc
 
 -- "Until something is accepted, all is 0."
 pub unstarted : (s : State) → Sound s → s .clock .any ≡ false → s ≡ fresh

@@ -14,7 +14,7 @@ use Rattle.record.specs.Rules.{broken}
 use Rattle.record.specs.Contents.{recordOf}
 use Rattle.record.proofs.Opened as opened
 use Rattle.record.proofs.Types as types
-use Rattle.prelude.proofs.Conds.{two}
+use Rattle.prelude.proofs.Conds.{cases, two}
 use Rattle.clock.specs.Clock.{accepted}
 use Rattle.accumulation.proofs.Closing as accumulation
 use Rattle.major.specs.Major.{slotOf, continues}
@@ -41,11 +41,10 @@ past true n x h e = (refl, e)
 past false n x h e = absurd (h e)
 
 nought : (n x : ℕ) → cond (eqb n 0) x n ≡ 0 → (n ≡ 0) × (x ≡ 0)
-nought n x e = go (eqb n 0) refl e
-  where
-    go : (t : Bool) → eqb n 0 ≡ t → cond t x n ≡ 0 → (n ≡ 0) × (x ≡ 0)
-    go true t e = (eqb-true n 0 t, e)
-    go false t e = absurd (true≢false (sym (eq-eqb n 0 e) ∙ t))
+nought n x e =
+    cases (eqb n 0)
+    (λ t. (eqb-true n 0 t, (rw t at e)))
+    (λ t. absurd (true≢false (sym (eq-eqb n 0 (rw t at e)) ∙ t)))
 
 pub all-pass : (i : Input) → numberOf i ≡ 0 → Passed i
 unfolding stateHolds
@@ -62,16 +61,15 @@ passed-size i p = opened.sized (i .bytes) (p .record-passes)
 
 -- work is done for an accepted record only
 pub at-work : (i : Input) (f : Decided → Bool) → f (refusal (i .state) (numberOf i)) ≡ false → f (decidedOf i) ≡ true → numberOf i ≡ 0
-at-work i f r e = go (eqb (numberOf i) 0) refl
-  where
-    go : (t : Bool) → eqb (numberOf i) 0 ≡ t → numberOf i ≡ 0
-    go true t = eqb-true (numberOf i) 0 t
-    go false t = absurd (true≢false (sym e ∙ ap f (refused-is i (eqb-false (numberOf i) 0 t)) ∙ r))
+at-work i f r e =
+    cases (eqb (numberOf i) 0)
+    (λ t. eqb-true (numberOf i) 0 t)
+    (λ t. absurd (true≢false (sym e ∙ ap f (refused-is i (eqb-false (numberOf i) 0 t)) ∙ r)))
 
 -- the clock after it
 pub accepted-clock : (i : Input) → numberOf i ≡ 0 → decidedOf i .stepped .state .clock ≡ accepted (countAt i)
 unfolding acceptance
-accepted-clock i e = ap (λ (x : Decided). x .stepped .state .clock) (accepted-is i e)
+accepted-clock i e = rw (accepted-is i e)
 
 -- the type of a frame with science is below 36
 pub science-type : (r : List ℕ) → carriesScience (recordOf r .kind) ≡ true → recordOf r .«frame_type» < 36
@@ -82,40 +80,39 @@ science-type r e = types.real-type (packetBytes r) (sym (types.science-real _) �
 part-burst : (t : Bool) (code : ℕ) → isPart (cond t code 0) ≡ true → t ≡ true
 unfolding isPart
 part-burst true code e = refl
-part-burst false code e = absurd (true≢false (sym e))
+part-burst false code e = cc
 
 module _ (i : Input) where
   -- each part lays just what carries it, the samples in the record's slot, cleared by the first of a major frame
   pub samples-mag : numberOf i ≡ 0 → decidedOf i .works .samples .work .lays ≡ carriesMag (fieldsOf i .kind)
   unfolding acceptance
-  samples-mag e = ap (λ (x : Decided). x .works .samples .work .lays) (accepted-is i e) ∙ major.lays-mag _ _ _ _ _
+  samples-mag e = rw (accepted-is i e, major.lays-mag _ _ _ _ _)
 
   pub samples-slot : numberOf i ≡ 0 → decidedOf i .works .samples .slot ≡ slotOf (countAt i)
   unfolding acceptance
-  samples-slot e = ap (λ (x : Decided). x .works .samples .slot) (accepted-is i e) ∙ major.own-slot _ _ _ _ _
+  samples-slot e = rw (accepted-is i e, major.own-slot _ _ _ _ _)
 
   pub samples-first : numberOf i ≡ 0 → decidedOf i .works .samples .work .clears ≡ not (continues (i .state .major) (countAt i))
   unfolding acceptance
-  samples-first e = ap (λ (x : Decided). x .works .samples .work .clears) (accepted-is i e) ∙ major.first-clears _ _ _ _ _
+  samples-first e = rw (accepted-is i e, major.first-clears _ _ _ _ _)
 
   pub cells-science : numberOf i ≡ 0 → decidedOf i .works .cells .lays ≡ carriesScience (fieldsOf i .kind)
   unfolding acceptance
-  cells-science e = ap (λ (x : Decided). x .works .cells .lays) (accepted-is i e) ∙ accumulation.lays-science _ _ _ _
+  cells-science e = rw (accepted-is i e, accumulation.lays-science _ _ _ _)
 
   -- the slot is one of 16, whatever is decided
   pub slot-small : decidedOf i .works .samples .slot < 16
-  slot-small = go (eqb (numberOf i) 0) refl
-    where
-      go : (t : Bool) → eqb (numberOf i) 0 ≡ t → decidedOf i .works .samples .slot < 16
-      go true t = omega (arith, samples-slot (eqb-true (numberOf i) 0 t))
-      go false t = omega (arith, ap (λ (x : Decided). x .works .samples .slot) (refused-is i (eqb-false (numberOf i) 0 t)))
+  slot-small =
+      cases (eqb (numberOf i) 0)
+      (λ t. omega (arith, samples-slot (eqb-true (numberOf i) 0 t)))
+      (λ t. omega (arith, ap (λ (x : Decided). x .works .samples .slot) (refused-is i (eqb-false (numberOf i) 0 t))))
 
   -- a burst packet is laid only of a frame that has it, and where it has room
   pub one-fits : decidedOf i .works .one .work .lays ≡ true
       → (carriesBurst (fieldsOf i .kind) ≡ true) × (decidedOf i .works .one .at + burstSize ≤ snapshotSize)
   unfolding acceptance stepSnapshot
   one-fits h =
-      let n = at-work i (λ (x : Decided). x .works .one .work .lays) refl h in
+      let n = at-work i (λ x. x .works .one .work .lays) refl h in
       let q = accepted-is i n in
       let k = sym (ap (λ (x : Decided). x .works .one .work .lays) q) ∙ h in (
         part-burst (carriesBurst (fieldsOf i .kind)) _ (sym (snapshot.lays-part _ _ _) ∙ k),
@@ -126,7 +123,7 @@ module _ (i : Input) where
       → (carriesTwo (fieldsOf i .kind) ≡ true) × (decidedOf i .works .two .at + burstSize ≤ snapshotSize)
   unfolding acceptance stepSnapshot recordOf
   two-fits h =
-      let n = at-work i (λ (x : Decided). x .works .two .work .lays) refl h in
+      let n = at-work i (λ x. x .works .two .work .lays) refl h in
       let q = accepted-is i n in
       let k = sym (ap (λ (x : Decided). x .works .two .work .lays) q) ∙ h in (
         part-burst (carriesTwo (fieldsOf i .kind)) _ (sym (snapshot.lays-part _ _ _) ∙ k),

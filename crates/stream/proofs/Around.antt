@@ -11,7 +11,7 @@ use Rattle.state.specs.Soundness.{fresh}
 use Rattle.gathering.specs.Lists.{Pairwise, those}
 use Rattle.stream.specs.Running.{run, traceOf, ClosedAccumulation, accumulations}
 use Rattle.stream.specs.Sending.{Fate, kept, removed, Sends, fed, ExtraRefused, Kept, keptOf, reals}
-use Rattle.stream.specs.Sending.{unspoiled, realUnspoiled, Near, WithinTurns, Stream}
+use Rattle.stream.specs.Sending.{unspoiled, realUnspoiled, WithinTurns, Stream}
 use Rattle.stream.specs.Cutting.{Joined, Parted}
 use Rattle.stream.specs.Filling.{Filled, firstCount}
 use Rattle.stream.specs.Around.{HandsOut, Around}
@@ -65,7 +65,7 @@ both-stream : Stream last 5 both lent (run fresh lent (fed both))
 unfolding both Sends fed ExtraRefused traceOf
 both-stream = record {
   sent = (sent-five last 5 refl, (rw (real-five last) (sent-six restart 6 refl), tt));
-  near = unfold p f in subst⁻¹ Near both-left (near-two p f (omega arith));
+  near = unfold p f in rw both-left (near-two p f (omega arith));
   within = unfold p f Every in subst⁻¹ WithinTurns both-left (omega arith, (omega arith, tt));
   right = lent-sized;
   refused = tt;
@@ -102,7 +102,7 @@ second-stream : Stream last 5 second lent (run fresh lent (fed second))
 unfolding second Sends fed ExtraRefused traceOf
 second-stream = record {
   sent = (sent-five last 5 refl, (rw (real-five last) (sent-six restart 6 refl), tt));
-  near = subst⁻¹ Near second-left (near-one z);
+  near = rw second-left (near-one z);
   within = unfold z Every in subst⁻¹ WithinTurns second-left (omega arith, tt);
   right = lent-sized;
   refused = tt;

@@ -29,16 +29,16 @@ numbered (x ∷ xs) n = go (carriesTwo (recordOf (x .bytes) .kind)) (carriesBurs
     these t b = cond t (firstOf n x ∷ secondOf (n + 1) x ∷ []) (cond b (firstOf n x ∷ []) [])
 
     go : (t b : Bool) → ((m : ℕ) → Numbered m (packetsFrom m xs)) → Numbered n (these t b ++ packetsFrom (n + length (these t b)) xs)
-    go true b ih = let e : n + 2 ≡ n + 1 + 1 = omega arith in (refl, (refl, subst (λ (m : ℕ). Numbered m (packetsFrom (n + 2) xs)) e (ih (n + 2))))
+    go true b ih = let e : n + 2 ≡ n + 1 + 1 = omega arith in (refl, (refl, subst (λ m. Numbered m (packetsFrom (n + 2) xs)) e (ih (n + 2))))
     go false true ih = (refl, ih (n + 1))
-    go false false ih = let e : n + 0 ≡ n = omega arith in subst (λ (m : ℕ). Numbered m (packetsFrom (n + 0) xs)) e (ih (n + 0))
+    go false false ih = let e : n + 0 ≡ n = omega arith in subst (λ m. Numbered m (packetsFrom (n + 0) xs)) e (ih (n + 0))
 
 -- no cut lies before the first packet
 pub between-none : (qs : List Packet) (n i j : ℕ) → Numbered n qs → j < n → cutBetween qs i j ≡ false
 unfolding Numbered cutBetween
 between-none [] n i j h l = refl
 between-none (q ∷ qs) n i j h l =
-    rw (h .0, lt-leb n j l, and-false (ltb i n)) (between-none qs (n + 1) i j (h .1) (omega arith))
+    rw (h .0, lt-leb n j l, and-false) (between-none qs (n + 1) i j (h .1) (omega arith))
 
 -- no cut between a number and itself
 pub between-same : (qs : List Packet) (i : ℕ) → cutBetween qs i i ≡ false
@@ -56,7 +56,7 @@ pub between-more : (qs : List Packet) (n k i j : ℕ) (q : Packet) → Numbered 
 unfolding Numbered cutBetween At
 between-more [] n k i j q h a e l = absurd a
 between-more (x ∷ qs) n zero i j q h a e l =
-    let m : x .number ≡ j + 1 = omega (arith, h .0) in
+    let m : x .number ≡ j + 1 = omega arith in
     rw (
       m,
       lt-ltb i (j + 1) (omega arith),

@@ -1,7 +1,7 @@
 -- One call: an accepted record moves the accumulation with its cells and the major frame with its samples, each by itself; a
 -- refused one moves nothing.
 -- Assumes nothing.
-use mathlib.Core.Path.{_≡_, refl, sym, ap, subst⁻¹, _∙_}
+use mathlib.Core.Path.{_≡_, refl, sym, ap, _∙_}
 use mathlib.Core.Bool.{Bool, true, false, cond}
 use mathlib.Core.List.{List, [], _∷_, _++_}
 use Prim.Native.Nat.{ℕ, _*_, _<_}
@@ -169,7 +169,7 @@ module _ (s : State) (b : Buffers) (x : Kept) (e : numberOf (input s b (x .bytes
 
     pub cells-call : length (b .openCells) ≡ cellsSize → FromCells (called s b (x .bytes))
     unfolding stepAccumulation cellsWith acceptance accumulations gather
-    cells-call n = subst⁻¹ FromCells is-taken (go (carriesScience kind) (joins (s .accumulation) (typeOf x) (at x)) (science-real kind))
+    cells-call n = rw is-taken (go (carriesScience kind) (joins (s .accumulation) (typeOf x) (at x)) (science-real kind))
       where
         stepOf : Bool → Bool → AccumulationStep
         stepOf p j = cond p (cond j (extends (s .accumulation) (typeOf x) (at x)) (renews (s .accumulation) (typeOf x) (at x))) (passes (s .accumulation))
@@ -183,7 +183,7 @@ module _ (s : State) (b : Buffers) (x : Kept) (e : numberOf (input s b (x .bytes
             (closing (s .accumulation) (b .openCells) ++ accumulate (started (typeOf x) (at x)) (cellsWith x noCells) xs))
             (accumulate (passed (s .accumulation)) (b .openCells) xs)
         go true true r h = rw (sym r) h
-        go true false r h = rw (sym r, cells-out (s .accumulation) (b .openCells) (b .finishedCells), h, n)
+        go true false r h = rw (sym r, cells-out, h, n)
         go false j r h = rw (sym r) h
 
     -- the major frame and the open samples
@@ -193,7 +193,7 @@ module _ (s : State) (b : Buffers) (x : Kept) (e : numberOf (input s b (x .bytes
 
     pub samples-call : length (b .openSamples) ≡ majorSamples → FromSamples (called s b (x .bytes))
     unfolding stepMajor samplesWith acceptance majors gather majorWith
-    samples-call n = subst⁻¹ FromSamples is-taken (λ h. go (continues (s .major) (at x)) h)
+    samples-call n = rw is-taken (λ h. go (continues (s .major) (at x)) h)
       where
         stepOf : Bool → MajorStep
         stepOf p =
@@ -207,4 +207,4 @@ module _ (s : State) (b : Buffers) (x : Kept) (e : numberOf (input s b (x .bytes
             (collect (majorWith x (s .major)) (samplesWith x (b .openSamples)) xs)
             (majorClosing (s .major) (b .openSamples) ++ collect (majorWith x noMajor) (samplesWith x noSamples) xs)
         go true h = h
-        go false h = rw (samples-out (s .major) (b .openSamples) (b .finishedSamples), h, n)
+        go false h = rw (samples-out, h, n)

@@ -58,7 +58,7 @@ pairs = record {
 
 none-pair : (u : ℕ) → u < types → pairAt noCells u ≡ 0
 unfolding pairWeight
-none-pair u h = ap (λ (b : ℕ). pairIn b u) (getD-replicate {A = ℕ} cellsSize (pairCell u) 0 0 (omega arith)) ∙ rw (div-eq-of-lt (pow-pos (6 - 2 * (u % 4))))
+none-pair u h = ap (λ b. pairIn b u) (getD-replicate {A = ℕ} cellsSize (pairCell u) 0 0 (omega arith)) ∙ rw (div-eq-of-lt (pow-pos (6 - 2 * (u % 4))))
 
 pub filled : (f : Kept) (fs : List Kept) → Every Typed (f ∷ fs) → Linked Joined f fs → Filled (f ∷ fs) (outOf (f ∷ fs))
 unfolding outOf Rising

@@ -1,12 +1,13 @@
 -- The kept records by themselves: what the numbers of one say of the next.
 -- Assumes nothing.
-use mathlib.Core.Path.{_≡_, refl, subst⁻¹, _∙_}
+use mathlib.Core.Path.{_≡_, refl, _∙_}
 use mathlib.Core.Bool.{Bool, true, false}
 use mathlib.Core.List.{List, [], _∷_}
 use Prim.Native.Nat.{ℕ, _+_, _%_, _≤_, _<_}
 use native.Mathlib.Omega.{arith}
 use lib.ListN.{length, drop}
 use lib.Seq.{getD-take, getD-drop}
+use Rattle.prelude.proofs.Conds.{cases}
 use Rattle.prelude.specs.Every.{Every}
 use Rattle.bits.specs.Twelve.{Bytes}
 use Rattle.record.specs.Layout.{size, frameCode}
@@ -52,11 +53,7 @@ loosen (x ∷ xs) c k k′ l p q h =
     )
 
 next-near : (k : ℕ) (r : List ℕ) → (k ≤ nextReal k r) × (nextReal k r ≤ k + 1)
-next-near k r = go (realTime r) refl
-  where
-    go : (t : Bool) → realTime r ≡ t → (k ≤ nextReal k r) × (nextReal k r ≤ k + 1)
-    go true e = rw e (omega arith, omega arith)
-    go false e = rw e (omega arith, omega arith)
+next-near k r = cases (realTime r) (λ e. rw e (omega arith, omega arith)) (λ e. rw e (omega arith, omega arith))
 
 pub chain : (xs : List Fate) (c k l : ℕ) → Sends c k xs → Chain c k l (keptOf c k l xs)
 unfolding Chain Sends keptOf
@@ -86,7 +83,7 @@ pub record Typed (f : Kept) : Type 0 where
   pub code : frameCode (packet f) < 256
 
 code-below : (f : Kept) → Bytes (f .bytes) → frameCode (packet f) < 256
-code-below f b = let e = getD-take 168 (drop 286 (f .bytes)) 0 0 (omega arith) ∙ getD-drop 286 (f .bytes) 0 0 in subst⁻¹ (λ (n : ℕ). n < 256) e (b 286)
+code-below f b = let e = getD-take 168 (drop 286 (f .bytes)) 0 0 (omega arith) ∙ getD-drop 286 (f .bytes) 0 0 in rw e (b 286)
 
 pub all-typed : (xs : List Kept) (c k l : ℕ) → Chain c k l xs → Every Typed (reals xs)
 unfolding Chain Every those
@@ -107,7 +104,7 @@ serial f = f .serial
 pub rising-counts : (xs : List Kept) (c k l : ℕ) → Chain c k l xs → Rising at c xs
 unfolding Chain Rising
 rising-counts [] c k l h = tt
-rising-counts (x ∷ xs) c k l h = (omega (arith, h .0 .counted, h .0 .losing), rising-counts xs (at x + 1) (nextReal (x .serial) (x .bytes)) (x .lost) (h .1))
+rising-counts (x ∷ xs) c k l h = (omega arith, rising-counts xs (at x + 1) (nextReal (x .serial) (x .bytes)) (x .lost) (h .1))
 
 pub rising-serials : (xs : List Kept) (c k l : ℕ) → Chain c k l xs → Rising serial k (reals xs)
 unfolding Chain Rising those serial

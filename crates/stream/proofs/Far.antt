@@ -72,11 +72,11 @@ module _ (n : ℕ) where
 
   left : unspoiled 0 0 stream ≡ before ∷ after ∷ []
   unfolding stream unspoiled keptOf before after
-  left = rw (next-filler 0 0, lose-kept n 1 0 0 behind, zero-add n)
+  left = rw (next-filler, lose-kept, zero-add n)
 
   alone : fed stream ≡ made 0 62 ∷ made (1 + n) 62 ∷ []
   unfolding stream fed
-  alone = ap (λ (rs : List (List ℕ)). made 0 62 ∷ rs) (lose-fed n 1 behind)
+  alone = rw lose-fed
 
   lost : unaccepted (unspoiled 0 0 stream) (at before) (at after) ≡ n
   unfolding before after

@@ -1,6 +1,6 @@
 -- The filled cells, counted: those whose frame is held are all filled.
 -- Assumes nothing.
-use mathlib.Core.Path.{_≡_, refl, ap}
+use mathlib.Core.Path.{_≡_, refl}
 use mathlib.Core.Bool.{Bool, true, false, cond, _&&_, or-true}
 use mathlib.Core.List.{List, [], _∷_}
 use mathlib.Core.Logic.{inl, inr}
@@ -46,7 +46,7 @@ all-filled fs a u =
     (λ p l. go p l (holdsCell (a .report .held) p) refl)
   where
     go : (p : ℕ) → p < cells → (t : Bool) → holdsCell (a .report .held) p ≡ t → _≡_ {A = ℕ} (cond (t && hasByte fs a p) 1 0) (cond t 1 0)
-    go p l true e = ap (λ (b : Bool). cond {A = ℕ} b 1 0) (has-byte fs a p (u .of) (u .cell p l e))
+    go p l true e = rw (has-byte fs a p (u .of) (u .cell p l e))
     go p l false e = refl
 
 pub filled-held : (fs : List Kept) (os : List ClosedAccumulation) → Every (Unmixed fs) os → sum (filledIn fs) os ≡ sum (λ a. cellsIn (a .report .held)) os

@@ -1,6 +1,6 @@
 -- The major frames of the kept records: those of one major number together (01, "Subcom and major frame").
 -- Assumes nothing.
-use mathlib.Core.Path.{_≡_, refl, sym, subst, _∙_}
+use mathlib.Core.Path.{_≡_, refl, sym, _∙_}
 use mathlib.Core.Bool.{true, false, true≢false}
 use mathlib.Core.List.{List, [], _∷_, _++_}
 use Prim.Native.Nat.{ℕ, _+_, _^_}
@@ -60,7 +60,7 @@ module _ (x : Kept) (xs : List Kept) where
     joins : continues (g .0) (at x) ≡ true → Beside p x × Open h (t ++ (x ∷ [])) x (majorWith x (g .0), samplesWith x (g .1)) xs
     unfolding continues Rising
     joins e = (
-      (sym (eqb-true (g .0 .number) (majorNumber (at x)) (two (majorOpen (g .0)) _ e .1)) ∙ o .number, omega (arith, o .rising .0)),
+      (sym (eqb-true (g .0 .number) (majorNumber (at x)) (two (majorOpen (g .0)) _ e .1)) ∙ o .number, omega arith),
       record {
         is = rw (o .is, put-more majorWith (h ∷ t) noMajor x, put-more samplesWith (h ∷ t) noSamples x) refl;
         is-open = with-open x (g .0);
@@ -72,8 +72,8 @@ module _ (x : Kept) (xs : List Kept) where
     parts : continues (g .0) (at x) ≡ false → Behind p x
     unfolding continues Rising
     parts e =
-        let n : g .0 .number ≡ majorNumber (at x) → ⊥ = eqb-false (g .0 .number) (majorNumber (at x)) (rw (o .is-open) at e) in
-        omega (arith, o .number, o .rising .0)
+        let n = eqb-false (g .0 .number) (majorNumber (at x)) (rw (o .is-open) at e) in
+        omega arith
 
 collects : Gathers collecting Beside Behind majorOf Shut Open
 collects = record {
@@ -89,5 +89,4 @@ collects = record {
 -- from nothing open: the major frames handed out are some cutting of the kept records
 pub frames : (xs : List Kept) (s : List ℤ) (c : ℕ) → Rising at c xs → Grouped Beside Behind majorOf xs (collect noMajor s xs)
 frames xs s c r =
-    subst (λ (ys : List Kept). Grouped Beside Behind majorOf ys (collect noMajor s xs)) (map-same _ ∙ those-all xs)
-    (gathered collecting Beside Behind majorOf Shut Open collects xs (noMajor, s) (record { low = c; is = refl; rising = r }))
+    rw (map-same _ ∙ those-all xs) at (gathered collecting Beside Behind majorOf Shut Open collects xs (noMajor, s) (record { low = c; is = refl; rising = r }))

@@ -80,7 +80,7 @@ follow-on : (p : Kept) (ks : List Kept) → Rising at (at p + 1) ks → Near (p 
 unfolding Rising Neighbours Every Follow
 follow-on p [] r n w = tt
 follow-on p (x ∷ ks) r n w = (
-  follows-last (at p) (at x) (omega (arith, r .0)) (omega (arith, n p x (inl (refl, refl)))) (w .0),
+  follows-last (at p) (at x) (omega arith) (omega (arith, n p x (inl (refl, refl)))) (w .0),
   follow-on x ks (r .1) (λ q f i. n q f (inr i)) (w .1),
 )
 

@@ -6,8 +6,7 @@ use mathlib.Core.List.{List, [], _∷_, _++_}
 use Prim.Native.Nat.{ℕ, zero, suc, _/_, _%_, _<_}
 use native.Mathlib.Omega.{arith}
 use lib.Dec.{T, ltb, ltb→lt}
-use lib.IntN.{ℤ, pos}
-use lib.ListN.{getD, replicate, length-replicate}
+use lib.ListN.{getD, replicate}
 use borrow.Author.Tests.{lt-ltb}
 use Rattle.prelude.specs.Upto.{both}
 use Rattle.prelude.specs.Rules.{firstBroken}
@@ -20,8 +19,6 @@ use Rattle.record.specs.Frame.{isBurst, kindOfCodes, kindOf, undefinedCodes}
 use Rattle.record.specs.Rules.{rules, broken, sizeHolds, syncHolds, spacecraftHolds, rateHolds, spareHolds, dayHolds, millisecondHolds}
 use Rattle.record.specs.Rules.{statusSpareHolds, flagsHold, typeHolds}
 use Rattle.record.specs.Contents.{recordOf}
-use Rattle.bursts.specs.Bursts.{snapshotSize}
-use Rattle.cells.specs.Laying.{cellsSize}
 use Rattle.record.specs.Frame.{isRealTime}
 use Rattle.major.specs.Major.{majorSamples}
 use Rattle.reader.specs.Buffers.{Buffers, buffers, sized}
@@ -58,7 +55,7 @@ module _ (c t : ℕ) (h : t < 256) where
   made-bytes =
       let high = lt-ltb (c / 65536 % 256) 256 (omega arith) in
       let low = lt-ltb (c / 256 % 256) 256 (omega arith) in
-      bytes-of (made c t) (rw (high, low, lt-ltb (c % 256) 256 (omega arith), lt-ltb t 256 h) tt)
+      bytes-of (made c t) (rw (high, low, lt-ltb (c % 256) 256 (omega arith), lt-ltb) tt)
 
   -- the count of a record that is made stands in bytes 6 to 8
   made-counted : sentCount (made c t) ≡ ownOf c
@@ -71,7 +68,7 @@ module _ (c t : ℕ) (h : t < 256) where
       let high : getD r 6 0 ≡ c / 65536 % 256 = unfold made in refl in
       let middle : getD r 7 0 ≡ c / 256 % 256 = unfold made in refl in
       let low : getD r 8 0 ≡ c % 256 = unfold made in refl in
-      omega (arith, none r 6, one, two, three, high, middle, low)
+      omega (arith, none r 6, two, three, high, middle, low)
 
   is-right : broken (made c t) ≡ 0 → recordOf (made c t) .«frame_type» ≡ t → Right c t
   is-right p q = record { bytes = made-bytes; passes = p; counted = made-counted; typed = q }
@@ -128,11 +125,7 @@ lent = buffers noCells noCells noSamples noSamples noBytes noBytes noBytes
 
 pub lent-lengths : Sizes lent
 unfolding lent
-lent-lengths =
-    let c = length-replicate {A = ℕ} cellsSize 0 in
-    let s = length-replicate {A = ℤ} majorSamples (pos 0) in
-    let b = length-replicate {A = ℕ} snapshotSize 0 in
-    record { cells = c; finished-cells = c; samples = s; finished-samples = s; snapshot = b; first-snapshot = b; second-snapshot = b }
+lent-lengths = omega arith
 
 pub lent-sized : sized lent ≡ true
 lent-sized = is-sized lent lent-lengths

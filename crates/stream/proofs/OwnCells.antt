@@ -1,6 +1,6 @@
 -- Each kept real-time record has exactly one accumulation of its own, and what an accumulation holds is all of such records.
 -- Assumes nothing.
-use mathlib.Core.Path.{_≡_, refl, sym, ap, subst, _∙_}
+use mathlib.Core.Path.{_≡_, refl, sym, ap, _∙_}
 use mathlib.Core.Bool.{true, false}
 use mathlib.Core.List.{List, [], _∷_}
 use mathlib.Core.Logic.{_⊎_, inl, inr, ⊎-elim}
@@ -27,7 +27,7 @@ use Rattle.stream.proofs.Chains.{serial, Typed}
 
 -- an accumulation is all of one round
 one-round : (fs : List Kept) (p f : Kept) → Linked Joined p fs → In f (p ∷ fs) → round f ≡ round p
-one-round fs p f l i = every-in (λ x. round x ≡ round p) (p ∷ fs) f (all-share (λ (x : Kept). round x) Joined (λ p f j. j .same) fs p l) i
+one-round fs p f l i = every-in (λ x. round x ≡ round p) (p ∷ fs) f (all-share (λ x. round x) Joined (λ p f j. j .same) fs p l) i
 
 -- the accumulations of the kept real-time records rs
 module _ (rs : List Kept) (c k : ℕ) (counts : Rising at c rs) (serials : Rising serial k rs) (known : Every Typed rs) where
@@ -57,11 +57,11 @@ module _ (rs : List Kept) (c k : ℕ) (counts : Rising at c rs) (serials : Risin
   own-part f i [] a p w o = absurd (p .1)
   own-part f i (h ∷ t) a p w o =
       in-some (λ x. (at x ≡ a .report .first) × (round x ≡ round f)) (In f (h ∷ t)) rs (o .1) (λ x j q.
-      let e : x ≡ h = unique at rs c x h counts j (w h (inl refl)) (q .0 ∙ p .0 .first) in
-      let r : round h ≡ round f = subst (λ (y : Kept). round y ≡ round f) e (q .1) in
+      let e = unique at rs c x h counts j (w h (inl refl)) (q .0 ∙ p .0 .first) in
+      let r = rw e at (q .1) in
       let b = every-in Typed rs f known i .typed in
       set-by typeOf (h ∷ t) (bitSet (a .report .held)) (typeOf f) (λ n. p .0 .others (typeOf f) (omega arith) n .unheld) (o .0) (In f (h ∷ t)) (λ y j e.
-      subst (λ (z : Kept). In z (h ∷ t)) (same-record f y i (w y j) (one-round t h y (p .1) j ∙ r) e) j))
+      rw (same-record f y i (w y j) (one-round t h y (p .1) j ∙ r) e) at j))
 
   -- what is held comes from one round
   unmixed-part : (g : List Kept) (a : ClosedAccumulation) → Part g a → Among rs g → Unmixed rs a
@@ -73,11 +73,11 @@ module _ (rs : List Kept) (c k : ℕ) (counts : Rising at c rs) (serials : Risin
     cell = λ q l e.
         let o = once q l in
         source (carrier q) (o .is-type) e (λ f. getD (a .cells) q 0 ≡ getD (scienceBytes (packet f)) (byteOf q) 0) (λ f z s.
-        sym (ap (λ (n : ℕ). getD (a .cells) n 0) (ap (λ (u : ℕ). place u (byteOf q)) z ∙ o .is)) ∙ s .science (byteOf q) (o .is-byte));
+        sym (rw (ap (λ u. place u (byteOf q)) z ∙ o .is)) ∙ s .science (byteOf q) (o .is-byte));
     no-cell = λ q l e.
         let o = once q l in
-        sym (ap (λ (n : ℕ). getD (a .cells) n 0) (o .is)) ∙ absent (carrier q) (o .is-type) e .science (byteOf q) (o .is-byte);
-    pair = λ u l e. source u l e (λ f. pairAt (a .cells) u ≡ topPair (frameCode (packet f))) (λ f z s. ap (λ (n : ℕ). pairAt (a .cells) n) (sym z) ∙ s .pair);
+        sym (rw (o .is)) ∙ absent (carrier q) (o .is-type) e .science (byteOf q) (o .is-byte);
+    pair = λ u l e. source u l e (λ f. pairAt (a .cells) u ≡ topPair (frameCode (packet f))) (λ f z s. ap (λ n. pairAt (a .cells) n) (sym z) ∙ s .pair);
     no-pair = λ u l e. absent u l e .pair;
   }
     where
@@ -103,15 +103,15 @@ module _ (rs : List Kept) (c k : ℕ) (counts : Rising at c rs) (serials : Risin
     pub torn-where : Cut Joined Parted gs → (p f : Kept) → Neighbours p f rs → round p ≡ round f
         → Some (λ a. Own rs p a × Own rs f a) os ⊎ (tears ≤ lostBetween p f)
     torn-where cut p f n r =
-        ⊎-elim (λ (s : Some (λ a. Own rs p a × Own rs f a) os). inl s)
-        (λ (s : Parted p f). inr (omega (arith, s r, rises)))
+        ⊎-elim (λ s. inl s)
+        (λ s. inr (omega (arith, s r, rises)))
         (both-own Part (Own rs) rs part-own gs os whole parts Joined Parted cut p f n)
       where
         -- of one round, the later one has the higher type
         rises : typeOf p < typeOf f
         rises =
             let i = neighbours-in rs p f n in
-            omega (arith, r, later, every-in Typed rs p known (i .0) .typed, every-in Typed rs f known (i .1) .typed)
+            omega (arith, later, every-in Typed rs p known (i .0) .typed, every-in Typed rs f known (i .1) .typed)
           where
             later : p .serial < f .serial
             later = unfold serial in neighbours-rise serial rs k p f serials n

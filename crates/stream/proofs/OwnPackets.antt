@@ -1,10 +1,10 @@
 -- Each packet of types 36 to 55 of the kept records stands in exactly one snapshot, told by its place, and what a snapshot holds is all of
 -- such packets (02, request 2).
 -- Assumes nothing.
-use mathlib.Core.Path.{_≡_, refl, sym, ap, subst, subst⁻¹, _∙_}
+use mathlib.Core.Path.{_≡_, refl, sym, ap, _∙_}
 use mathlib.Core.Bool.{Bool, true, false, cond, _&&_, or-true}
 use mathlib.Core.List.{List, [], _∷_}
-use mathlib.Core.Logic.{_⊎_, inl, inr, ⊎-elim, _↔_}
+use mathlib.Core.Logic.{inl, inr, ⊎-elim, _↔_}
 use Prim.Native.Nat.{ℕ, suc, _+_, _*_, _/_, _%_, _<_}
 use native.Mathlib.Nat.{zero-add}
 use native.Mathlib.Omega.{arith}
@@ -13,15 +13,14 @@ use lib.ListN.{length, getD}
 use borrow.Author.Tests.{eq-eqb}
 use Rattle.prelude.specs.Every.{Every}
 use Rattle.prelude.specs.Marks.{bitSet}
-use Rattle.bursts.specs.Bursts.{firstPacket, burstSize, snapshotSize, place, carrierOf}
+use Rattle.bursts.specs.Bursts.{burstSize, snapshotSize, place, carrierOf}
 use Rattle.bursts.proofs.Carries.{once}
-use Rattle.snapshot.specs.Snapshot.{packetType}
 use Rattle.listing.specs.Lines.{packetsHeld}
 use Rattle.gathering.specs.Lists.{Some, Pairwise, ExactlyOne, flat, sum, total}
 use Rattle.gathering.specs.Places.{At, Placed, placed, HasBoth}
 use Rattle.gathering.proofs.Members.{In, every-in}
 use Rattle.gathering.proofs.Owning.{set-by, unset-free}
-use Rattle.gathering.proofs.Places.{OneOrTwo, Stood, each-placed, one-or-two, item-stands, at-in}
+use Rattle.gathering.proofs.Places.{OneOrTwo, each-placed, one-or-two, item-stands, at-in}
 use Rattle.gathering.proofs.Totals.{total-same, markAt, rows-marked}
 use Rattle.stream.specs.Running.{ClosedSnapshot}
 use Rattle.stream.specs.Sending.{Kept}
@@ -55,22 +54,22 @@ module _ (ps g : List Packet) (e : Placed ClosedSnapshot) (h : SnapshotFilled g 
       placed-in g y (FromPacket ps e p) j (λ i k at.
       let c = every-in (λ f. PacketStands f (e .thing)) g y (h .own) j in
       let part = every-in Part ps y known (at-in ps (e .before + i) y (a i y at)) in
-      let t : packetType (y .code) ≡ firstPacket + carrierOf p = mark-type y part ∙ ap (λ (u : ℕ). firstPacket + u) z in
-      let q : place (packetType (y .code)) (p % burstSize) ≡ p = ap (λ (n : ℕ). place n (p % burstSize)) t ∙ once p l .is in
+      let t = mark-type y part ∙ rw z in
+      let q = ap (λ n. place n (p % burstSize)) t ∙ once p l .is in
       record {
         among = e .before + i;
         packet = y;
         is = a i y at;
-        in-it = (omega arith, omega (arith, k, h .held));
+        in-it = (omega arith, omega arith);
         carries = z;
-        byte = subst (λ (n : ℕ). getD (e .thing .bytes) n 0 ≡ getD (y .bytes) (p % burstSize) 0) q (c .bytes (p % burstSize) (omega arith));
+        byte = rw q at (c .bytes (p % burstSize) (omega arith));
       }))
 
   none-from : (p : ℕ) → p < snapshotSize → bitSet (e .thing .report .held) (carrierOf p) ≡ false → getD (e .thing .bytes) p 0 ≡ 0
   none-from p l b =
       let free = unset-free mark g (bitSet (e .thing .report .held)) (carrierOf p)
       (λ y j. every-in (λ f. PacketStands f (e .thing)) g y (h .own) j .held) b in
-      subst (λ (n : ℕ). getD (e .thing .bytes) n 0 ≡ 0) (once p l .is) (h .others (carrierOf p) (omega arith) free .bytes (p % burstSize) (omega arith))
+      rw (once p l .is) at (h .others (carrierOf p) (omega arith) free .bytes (p % burstSize) (omega arith))
 
 -- the snapshots of the packets of types 36 to 55 in the kept records ks
 module _ (ks : List Kept) (gs : List (List Packet)) (os : List ClosedSnapshot) (whole : flat gs ≡ snapPackets ks)
@@ -81,16 +80,15 @@ module _ (ks : List Kept) (gs : List (List Packet)) (os : List ClosedSnapshot) (
   pub stood : (i : ℕ) (f : Packet) → At i f (snapPackets ks)
       → ExactlyOne (HasPacket i) (placed items 0 0 os) × Every (λ e. HasPacket i e → PacketStands f (e .thing)) (placed items 0 0 os)
   stood i f a =
-      subst (λ (k : ℕ). Stood SnapshotFilled items sizes PacketStands (λ g s h. h .own) f k (placed items 0 0 os)) (zero-add i)
-      (item-stands SnapshotFilled items sizes PacketStands (λ g s h. h .own) gs os 0 0 i f parts (subst⁻¹ (At i f) whole a))
+      rw (zero-add i) at (item-stands SnapshotFilled items sizes PacketStands (λ g s h. h .own) gs os 0 0 i f parts (rw whole a))
 
   pub together-where : (i : ℕ) (p f : Packet) → At i p (snapPackets ks) → At (suc i) f (snapPackets ks)
       → Some (HasNext i) (placed items 0 0 os) ↔ Together ks p f
   together-where i p f a b = (
-    λ s. ⊎-elim (λ (y : Together ks p f × Some (HasBoth items i) os′). y .0)
-        (λ (y : Apart ks p f × Every (λ e. HasBoth items i e → ⊥) os′). absurd (none-some (HasBoth items i) os′ (y .1) s)) either,
-    λ t. ⊎-elim (λ (y : Together ks p f × Some (HasBoth items i) os′). y .1)
-        (λ (y : Apart ks p f × Every (λ e. HasBoth items i e → ⊥) os′). absurd (y .0 t)) either,
+    λ s. ⊎-elim (λ y. y .0)
+        (λ y. absurd (none-some (HasBoth items i) os′ (y .1) s)) either,
+    λ t. ⊎-elim (λ y. y .1)
+        (λ y. absurd (y .0 t)) either,
   )
     where
       os′ : List (Placed ClosedSnapshot)
@@ -98,14 +96,13 @@ module _ (ks : List Kept) (gs : List (List Packet)) (os : List ClosedSnapshot) (
 
       either : OneOrTwo SnapshotFilled items sizes (Together ks) (Apart ks) p f i os′
       either =
-          subst (λ (k : ℕ). OneOrTwo SnapshotFilled items sizes (Together ks) (Apart ks) p f k os′) (zero-add i)
-          (one-or-two SnapshotFilled items sizes (Together ks) (Apart ks) gs os 0 0 i p f cut parts (subst⁻¹ (At i p) whole a) (subst⁻¹ (At (suc i) f) whole b))
+          rw (zero-add i) at (one-or-two SnapshotFilled items sizes (Together ks) (Apart ks) gs os 0 0 i p f cut parts (rw whole a) (rw whole b))
 
   pub snapshots-unmixed : Every (UnmixedSnapshot (snapPackets ks)) (placed items 0 0 os)
   snapshots-unmixed =
       each-placed SnapshotFilled items sizes (UnmixedSnapshot (snapPackets ks)) (snapPackets ks)
       (λ g e h a. record { held = held-from (snapPackets ks) g e h known a; unheld = none-from (snapPackets ks) g e h known a }) gs os 0 0 parts
-      (λ i f a. subst (λ (k : ℕ). At k f (snapPackets ks)) (sym (zero-add i)) (subst (At i f) whole a))
+      (λ i f a. rw (zero-add i) (rw whole at a))
 
 -- The filled bytes, counted: those whose packet is held are all filled.
 has-byte : (ps : List Packet) (s : ClosedSnapshot) (p : ℕ) (q : Packet) → In q ps → mark q ≡ carrierOf p
@@ -113,9 +110,9 @@ has-byte : (ps : List Packet) (s : ClosedSnapshot) (p : ℕ) (q : Packet) → In
 unfolding Some hasPacketByte
 has-byte [] s p q i e b = absurd i
 has-byte (x ∷ ps) s p q (inl i) e b =
-    let y : mark x ≡ carrierOf p = ap mark i ∙ e in
-    let z : getD (s .bytes) p 0 ≡ getD (x .bytes) (p % burstSize) 0 = b ∙ ap (λ (f : Packet). getD (f .bytes) (p % burstSize) 0) (sym i) in
-    rw (eq-eqb (mark x) (carrierOf p) y, eq-eqb (getD (s .bytes) p 0) (getD (x .bytes) (p % burstSize) 0) z)
+    let y = ap mark i ∙ e in
+    let z = b ∙ ap (λ f. getD (f .bytes) (p % burstSize) 0) (sym i) in
+    rw (eq-eqb, eq-eqb)
 has-byte (x ∷ ps) s p q (inr i) e b =
     rw (has-byte ps s p q i e b) (or-true (eqb (mark x) (carrierOf p) && eqb (getD (s .bytes) p 0) (getD (x .bytes) (p % burstSize) 0)))
 
@@ -134,7 +131,7 @@ module _ (ps : List Packet) where
       go p l true b =
           let f = u .held p l b in
           let i = at-in ps (f .among) (f .packet) (f .is) in
-          ap (λ (b : Bool). cond {A = ℕ} b 1 0) (has-byte ps (e .thing) p (f .packet) i (f .carries) (f .byte))
+          rw (has-byte ps (e .thing) p (f .packet) i (f .carries) (f .byte))
       go p l false b = refl
 
   -- the bytes filled number 82 for each packet held
@@ -144,6 +141,6 @@ module _ (ps : List Packet) where
   bytes-held [] gs n m h u = refl
   bytes-held (s ∷ os) [] n m h u = absurd h
   bytes-held (s ∷ os) (g ∷ gs) n m h u =
-      let one : filledIn s ≡ burstSize * items s =
+      let one =
       all-filled (record { place = n; before = m; thing = s }) (u .0) ∙ rows-marked burstSize (omega arith) 20 (s .report .held) (h .0 .among) in
-      omega (arith, one, bytes-held os gs (n + 1) (m + items s) (h .1) (u .1))
+      omega (arith, bytes-held os gs (n + 1) (m + items s) (h .1) (u .1))

@@ -1,6 +1,6 @@
 -- Each kept record has exactly one major frame of its own, and what a major frame holds is all of such records.
 -- Assumes nothing.
-use mathlib.Core.Path.{_≡_, sym, subst, _∙_}
+use mathlib.Core.Path.{_≡_, sym, _∙_}
 use mathlib.Core.List.{List}
 use Prim.Native.Nat.{ℕ}
 use native.Mathlib.Omega.{arith}
@@ -23,8 +23,8 @@ module _ (rs : List Kept) (c : ℕ) (counts : Rising at c rs) where
   own-slot : (f : Kept) → In f rs → (g : List Kept) (m : ClosedMajor) → MajorFilled g m → Among rs g → OwnMajor f m → In f g
   own-slot f i g m p w o =
       set-by slot g (bitSet (m .frame .slots)) (slot f) (λ n. p .no-slot (slot f) (omega arith) n .unheld) (o .1) (In f g) (λ y j e.
-      let n : major y ≡ major f = sym (every-in (λ f. Slotted f m) g y (p .own) j .number) ∙ o .0 in
-      subst (λ (z : Kept). In z g) (unique at rs c y f counts (w y j) i (omega arith)) j)
+      let n = sym (every-in (λ f. Slotted f m) g y (p .own) j .number) ∙ o .0 in
+      rw (unique at rs c y f counts (w y j) i (omega arith)) at j)
 
   -- what is held comes from its records
   unmixed-slots : (g : List Kept) (m : ClosedMajor) → MajorFilled g m → Among rs g → UnmixedMajor rs m

@@ -44,7 +44,7 @@ all-sized (x ∷ xs) n c k l w =
     these t b = cond t (firstOf n x ∷ secondOf (n + 1) x ∷ []) (cond b (firstOf n x ∷ []) [])
 
     sized : length (packetBytes (x .bytes)) ≡ packetSize
-    sized = simp (length-take, length-drop) (omega (arith, w .0 .sized))
+    sized = simp (length-take, length-drop) (omega arith)
 
     go : (t b : Bool) → ((m : ℕ) → Every (λ q. length (q .bytes) ≡ burstSize) (packetsFrom m xs))
         → Every (λ q. length (q .bytes) ≡ burstSize) (these t b ++ packetsFrom (n + length (these t b)) xs)
@@ -72,7 +72,7 @@ piece q p = record { below = mark-small (q .code) (p .is); sized = p .sized }
 byteTable : (k : ℕ) → k < burstSize
     → Table mark bytesWith (λ b u. getD b (burstSize * u + k) 0) (λ q. getD (q .bytes) k 0) Piece (λ u. u < bursts.packets) (λ low b. length b ≡ snapshotSize)
 unfolding bytesWith
-byteTable k h = blocks mark bursts.packets 0 burstSize (λ (q : Packet). q .bytes) k h
+byteTable k h = blocks mark bursts.packets 0 burstSize (λ q. q .bytes) k h
 
 -- types rise, and so marks do
 links-rise : (p f : Packet) → Part p → packetType (p .code) < packetType (f .code) → mark p < mark f
@@ -88,7 +88,7 @@ pub mark-type : (q : Packet) → Part q → packetType (q .code) ≡ bursts.firs
 mark-type q p = omega (arith, part-from (q .code) (p .is))
 
 place-is : (u k : ℕ) → u < bursts.packets → k < burstSize → place (bursts.firstPacket + u) k ≡ burstSize * u + k
-place-is u k h l = carried (bursts.firstPacket + u) (omega arith) (omega arith) .in-order k l ∙ ap (λ (n : ℕ). burstSize * n + k) (omega arith)
+place-is u k h l = carried (bursts.firstPacket + u) (omega arith) (omega arith) .in-order k l ∙ ap (λ n. burstSize * n + k) (omega arith)
 
 pub snapshot-filled : (ks : List Kept) (f : Packet) (fs : List Packet) → Every Part (f ∷ fs) → Linked (Together ks) f fs
     → SnapshotFilled (f ∷ fs) (snapOf (f ∷ fs))
@@ -109,13 +109,13 @@ snapshot-filled ks f fs t l =
           record {
             held = marks-set mark g 0 r x i;
             bytes = λ k h.
-                let q = ap (λ (n : ℕ). place n k) (mark-type x p) ∙ place-is (mark x) k (piece x p .below) h in
-                ap (λ (n : ℕ). getD (putAll bytesWith noBytes g) n 0) q ∙ stand (byteTable k h) g noBytes 0 good r z x i;
+                let q = ap (λ n. place n k) (mark-type x p) ∙ place-is (mark x) k (piece x p .below) h in
+                ap (λ n. getD (putAll bytesWith noBytes g) n 0) q ∙ stand (byteTable k h) g noBytes 0 good r z x i;
           });
       others = λ u h n. record {
         unheld = marks-free mark g 0 r u n;
         bytes = λ k j.
-            ap (λ (n : ℕ). getD (putAll bytesWith noBytes g) n 0) (place-is u k h j)
+            ap (λ n. getD (putAll bytesWith noBytes g) n 0) (place-is u k h j)
             ∙ stays (byteTable k j) g noBytes 0 u good r z h n
             ∙ getD-replicate {A = ℕ} snapshotSize (burstSize * u + k) 0 0 (omega arith);
       };

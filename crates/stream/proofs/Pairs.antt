@@ -3,7 +3,7 @@
 use mathlib.Core.Path.{_≡_, ap}
 use mathlib.Core.List.{List, [], _∷_, _++_}
 use mathlib.Core.Logic.{_⊎_, inl, inr}
-use Prim.Native.Nat.{ℕ, suc, _+_, _-_, _<_}
+use Prim.Native.Nat.{suc, _+_, _-_, _<_}
 use native.Mathlib.Omega.{arith}
 use lib.ListN.{length}
 use Rattle.clock.specs.Clock.{farthest}
@@ -25,12 +25,12 @@ near-two p f h q g (inr n) = absurd n
 
 pub of-one : (R S : Kept → Kept → Type 0) (p : Kept) (gs : List (List Kept)) → flat gs ≡ p ∷ [] → Cut R S gs → gs ≡ (p ∷ []) ∷ []
 unfolding flat Cut
-of-one R S p [] e c = let y : _≡_ {A = ℕ} 0 1 = ap length e in absurd (omega arith)
+of-one R S p [] e c = let y = ap length e in absurd (omega arith)
 of-one R S p ([] ∷ gs) e c = absurd c
-of-one R S p ((x ∷ []) ∷ []) e c = ap (λ (g : List Kept). g ∷ []) e
+of-one R S p ((x ∷ []) ∷ []) e c = rw e
 of-one R S p ((x ∷ []) ∷ ([] ∷ gs)) e c = absurd (c .2)
-of-one R S p ((x ∷ []) ∷ ((y ∷ ys) ∷ gs)) e c = let h : suc (suc (length (ys ++ flat gs))) ≡ 1 = ap length e in absurd (omega arith)
-of-one R S p ((x ∷ y ∷ xs) ∷ gs) e c = let h : suc (suc (length (xs ++ flat gs))) ≡ 1 = ap length e in absurd (omega arith)
+of-one R S p ((x ∷ []) ∷ ((y ∷ ys) ∷ gs)) e c = let h = ap length e in absurd (omega arith)
+of-one R S p ((x ∷ y ∷ xs) ∷ gs) e c = let h = ap length e in absurd (omega arith)
 
 module _ (R S : Kept → Kept → Type 0) (p f : Kept) where
   pub record Split (gs : List (List Kept)) : Type 0 where
@@ -46,9 +46,9 @@ module _ (R S : Kept → Kept → Type 0) (p f : Kept) where
 
   pub of-two : (gs : List (List Kept)) → flat gs ≡ p ∷ f ∷ [] → Cut R S gs → Split gs ⊎ Whole gs
   unfolding flat Cut Linked Across final
-  of-two [] e c = let y : _≡_ {A = ℕ} 0 2 = ap length e in absurd (omega arith)
+  of-two [] e c = let y = ap length e in absurd (omega arith)
   of-two ([] ∷ gs) e c = absurd c
-  of-two ((x ∷ []) ∷ []) e c = let y : _≡_ {A = ℕ} 1 2 = ap length e in absurd (omega arith)
+  of-two ((x ∷ []) ∷ []) e c = let y = ap length e in absurd (omega arith)
   of-two ((x ∷ []) ∷ ([] ∷ gs)) e c = absurd (c .2)
   of-two ((x ∷ []) ∷ ((y ∷ []) ∷ [])) e c =
       let h = heads x y p f [] e in

@@ -1,7 +1,7 @@
 -- Over a sent stream: what is kept is accepted, and the accumulations and the major frames handed out are those of the kept
 -- records alone, each kind by itself.
 -- Assumes nothing.
-use mathlib.Core.Path.{_≡_, ap, subst, subst⁻¹, _∙_}
+use mathlib.Core.Path.{_≡_, subst, subst⁻¹, _∙_}
 use mathlib.Core.Bool.{Bool, true, false, cond, _&&_}
 use mathlib.Core.List.{List, [], _∷_}
 use Prim.Native.Nat.{ℕ, _+_, _*_, _<_}
@@ -19,7 +19,7 @@ use Rattle.record.proofs.Types.{burst-short}
 use Rattle.record.specs.Rules.{broken}
 use Rattle.record.specs.Contents.{recordOf}
 use Rattle.record.proofs.Opened as opened
-use Rattle.mag.specs.Samples.{samplesSize, sample, samples}
+use Rattle.mag.specs.Samples.{samplesSize, samples}
 use Rattle.bursts.specs.Bursts.{snapshotSize}
 use Rattle.cells.specs.Laying.{cellsSize, laidFrame}
 use Rattle.cells.proofs.Laws.{length-frame}
@@ -40,7 +40,7 @@ use Rattle.reader.specs.Buffers.{Buffers, sized, copiedBy, clearedBy, cellsAfte
 use Rattle.reader.specs.Steps.{input}
 use Rattle.reader.proofs.Lengths.{Sizes, sizes, is-sized, length-cleared, packet-length}
 use Rattle.gathering.specs.Gathering.{gather}
-use Rattle.stream.specs.Running.{Call, Trace, step, called, run, traceOf, accumulations, majors, snapshots}
+use Rattle.stream.specs.Running.{Call, Trace, called, run, traceOf, accumulations, majors, snapshots}
 use Rattle.stream.specs.Cutting.{at}
 use Rattle.stream.specs.Bursts.{packetsOf}
 use Rattle.stream.specs.Sending.{sentCount, nextReal, Fate, kept, removed, extra, Sends, fed, ExtraRefused, KeptAccepted, Kept, keptOf}
@@ -69,7 +69,7 @@ samples-size w p s h e = go (w .work .lays) (w .work .clears)
     go true t =
         let n = length-cleared t (pos 0) s ∙ e in
         length-patch (clearedBy t (pos 0) s) (samplesSize * w .slot) (samples (magBytes p))
-        (rw (length-build (sample (magBytes p)) samplesSize) (omega (arith, n))) ∙ n
+        (rw length-build (omega arith)) ∙ n
     go false t = length-cleared t (pos 0) s ∙ e
 
 pub call-sized : (s : State) (b : Buffers) (r : List ℕ) → Sizes b → Sizes (called s b r .left)
@@ -78,9 +78,9 @@ call-sized s b r z =
     let i = input s b r in
     let w = decidedOf i .works in
     let p = packetBytes r in
-    let first = packet-length (w .one) (burstBytes p false) (b .openSnapshot) (λ h. omega (arith, one-fits i h .1, burst-short p false, z .snapshot)) in
+    let first = packet-length (w .one) (burstBytes p false) (b .openSnapshot) (λ h. omega (arith, one-fits i h .1, burst-short p false)) in
     let second = packet-length (w .two) (burstBytes p true) (afterFirst (w .one) p (b .openSnapshot))
-    (λ h. omega (arith, two-fits i h .1, burst-short p true, first, z .snapshot)) ∙ first in
+    (λ h. omega (arith, two-fits i h .1, burst-short p true, z .snapshot)) ∙ first in
     record {
       cells = cells-size (w .cells) (packetBytes r) (b .openCells) (z .cells);
       finished-cells = copied-size (w .cells .copies) (b .openCells) (b .finishedCells) cellsSize (z .cells) (z .finished-cells);
@@ -124,12 +124,12 @@ module _ (s : State) (b : Buffers) (c : ℕ) (r : List ℕ) (h : Ready s b) (t :
   -- a record that stands at count c and passes rules 2 to 11 is accepted
   pub accepts : broken r ≡ 0 → numberOf (input s b r) ≡ 0
   unfolding stateHolds clockHolds turnHolds
-  accepts e = number-is (input s b r) ∙ rw (is-sized b (h .sized), h .sound .passes, eq-eqb (broken r) 0 e, t .later, t .turn)
+  accepts e = number-is (input s b r) ∙ rw (is-sized b (h .sized), h .sound .passes, eq-eqb, t .later, t .turn)
 
   -- once it is accepted the clock has its count
   pub clock-after : numberOf (input s b r) ≡ 0 → called s b r .result .state .clock ≡ accepted c
   unfolding called
-  clock-after n = accepted-clock (input s b r) n ∙ ap (λ (d : ℕ). accepted d) (t .count)
+  clock-after n = accepted-clock (input s b r) n ∙ rw (t .count)
 
 -- whatever it is handed, it takes records then
 pub moves : (s : State) (b : Buffers) (r : List ℕ) → Ready s b → Ready (called s b r .result .state) (called s b r .left)
@@ -174,13 +174,12 @@ module _ (ks : List Kept) (xs : List Fate) (s : State) (b : Buffers) where
   unfolding traceOf fed ExtraRefused KeptAccepted accumulations majors snapshots
   extra-one x q v =
       let e = refused-call s b x (q .0) in
-      let p = v (subst (λ (y : Call). ExtraRefused xs (behind y (fed xs))) e (q .1)) in
+      let p = v (rw e at (q .1)) in
       record {
-        accepted = subst⁻¹ (λ (y : Call). KeptAccepted xs (behind y (fed xs))) e (p .accepted);
-        cells = subst⁻¹ (λ (y : Call). accumulations (step y (behind y (fed xs))) ≡ accumulate (s .accumulation) (b .openCells) ks) e (p .cells);
-        samples = subst⁻¹ (λ (y : Call). majors (step y (behind y (fed xs))) ≡ collect (s .major) (b .openSamples) ks) e (p .samples);
-        bytes = λ n. subst⁻¹ (λ (y : Call). snapshots (step y (behind y (fed xs))) ≡ snap (s .clock .last) (s .snapshot) (b .openSnapshot) (eventsFrom n ks))
-            e (p .bytes n);
+        accepted = rw e (p .accepted);
+        cells = rw e (p .cells);
+        samples = rw e (p .samples);
+        bytes = λ n. rw e (p .bytes n);
       }
 
 pub parts : (xs : List Fate) (k l c : ℕ) (s : State) (b : Buffers) → Ready s b → Sends c k xs → Follow (s .clock) (keptOf c k l xs)

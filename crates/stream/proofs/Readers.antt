@@ -15,13 +15,12 @@ use Rattle.prelude.proofs.Upto.{upto-at}
 use Rattle.prelude.proofs.Every.{every-joined}
 use Rattle.record.specs.Layout.{scienceBytes}
 use Rattle.record.specs.Contents.{recordOf}
-use Rattle.carriage.specs.Carriage.{cells, carrier, byteOf}
+use Rattle.carriage.specs.Carriage.{cells, byteOf}
 use Rattle.carriage.proofs.EachCell.{once}
 use Rattle.cells.specs.Raw.{holdsCell}
 use Rattle.cells.specs.Laying.{cellsSize}
 use Rattle.listing.specs.Lines.{framesHeld, cellsHeld}
 use Rattle.accumulation.specs.Accumulation.{joins, started}
-use Rattle.clock.specs.declared.Clock.{Clock}
 use Rattle.clock.proofs.Laws.{Follows, follows-none, follows-last}
 use Rattle.state.specs.Deciding.{numberOf, answerNumber}
 use Rattle.state.specs.Soundness.{fresh}
@@ -36,7 +35,7 @@ use Rattle.gathering.specs.Lists.{Pairwise, sum, those}
 use Rattle.gathering.proofs.Totals.{total-none}
 use Rattle.stream.specs.Running.{Reader, Call, Trace, traceOf, called, ClosedAccumulation, handedAccumulation, accumulations}
 use Rattle.stream.specs.Sending.{Fate, kept, Sends, fed, ExtraRefused, KeptAccepted, Kept, keptOf, reals}
-use Rattle.stream.specs.Sending.{unspoiled, realUnspoiled, Near, WithinTurns, Stream}
+use Rattle.stream.specs.Sending.{unspoiled, realUnspoiled, WithinTurns, Stream}
 use Rattle.stream.specs.Cutting.{at, typeOf, Joined, Parted}
 use Rattle.stream.specs.Filling.{Filled, packet}
 use Rattle.stream.specs.Demand.{cellsListed}
@@ -82,7 +81,7 @@ first-opens = opening fresh lent first first-passes (first-stands .count) (real-
 second-stands : Stood (now .result .state) 101 (made 101 6)
 second-stands =
     let e = clock-after fresh lent 100 (made 100 5) ready first-stands first-passes in
-    let f = subst⁻¹ (λ (y : Clock). Follows y 101) e (follows-last 100 101 (omega arith) (omega arith) (omega arith)) in
+    let f = subst⁻¹ (λ y. Follows y 101) e (follows-last 100 101 (omega arith) (omega arith) (omega arith)) in
     stands-at (now .result .state) 101 f (made 101 6) (is-six .counted)
 
 second-passes : numberOf (input (now .result .state) (now .left) (made 101 6)) ≡ 0
@@ -99,7 +98,7 @@ module _ (R : Reader) (keeps : Keeps R) where
   -- the reader's answer to a first record
   number-is : (r : List ℕ) → answerNumber (R .steps fresh lent r .result .answer) ≡ numberOf (input fresh lent r)
   unfolding called
-  number-is r = ap (λ (x : Call). answerNumber (x .result .answer)) (is-call fresh lent r) ∙ answered (input fresh lent r)
+  number-is r = ap (λ x. answerNumber (x .result .answer)) (is-call fresh lent r) ∙ answered (input fresh lent r)
 
   -- "A reader that refuses everything, and one with a fixed answer, break demand 2's "exactly when""
   accepted-once : answerNumber (R .steps fresh lent (made 100 5) .result .answer) ≡ 0
@@ -110,7 +109,7 @@ module _ (R : Reader) (keeps : Keeps R) where
 
   pub not-fixed : (x : Answer) → FixedAnswer R x → ⊥
   not-fixed x h =
-      let e : answerNumber (R .steps fresh lent [] .result .answer) ≡ 0 = ap answerNumber (h fresh lent [] ∙ sym (h fresh lent (made 100 5))) ∙ accepted-once in
+      let e = ap answerNumber (h fresh lent [] ∙ sym (h fresh lent (made 100 5))) ∙ accepted-once in
       let n : numberOf (input fresh lent []) ≡ 0 = sym (number-is []) ∙ e in
       let l : length {A = ℕ} [] ≡ 472 = passed-size (input fresh lent []) (all-pass (input fresh lent []) n) in
       omega arith
@@ -162,13 +161,12 @@ all-lent : (R : Reader) → StoresNothing R → (rs : List (List ℕ)) (s : Stat
 unfolding traceOf accumulations
 all-lent R h [] s b =
     let x = R .finishes s b in
-    out-lent (x .result .closed .accumulation) (x .left .finishedCells) (b .finishedCells) (ap (λ (y : Buffers). y .finishedCells) (h .finishes s b))
+    out-lent (x .result .closed .accumulation) (x .left .finishedCells) (b .finishedCells) (rw (h .finishes s b))
 all-lent R h (r ∷ rs) s b =
     let x = R .steps s b r in
     every-joined (λ a. a .cells ≡ b .finishedCells) _ _
-    (out-lent (x .result .closed .accumulation) (x .left .finishedCells) (b .finishedCells) (ap (λ (y : Buffers). y .finishedCells) (h .steps s b r)))
-    (subst⁻¹ (λ (y : Buffers). Every (λ a. a .cells ≡ b .finishedCells) (accumulations (traceOf R (x .result .state) y rs))) (h .steps s b r)
-    (all-lent R h rs (x .result .state) b))
+    (out-lent (x .result .closed .accumulation) (x .left .finishedCells) (b .finishedCells) (rw (h .steps s b r)))
+    (rw (h .steps s b r) (all-lent R h rs (x .result .state) b))
 
 -- no cell of 0 has a byte of the first record, whose bytes are 1
 science-ones : (k : ℕ) → k < 83 → getD (scienceBytes (packet first)) k 0 ≡ 1
@@ -178,8 +176,8 @@ science-ones k h = eqb→eq _ _ (upto-at (λ k. eqb (getD (scienceBytes (packet 
 no-byte : (a : ClosedAccumulation) (p : ℕ) → a .cells ≡ lent .finishedCells → p < cells → isFilled (first ∷ []) a p ≡ false
 unfolding hasByte lent
 no-byte a p e l =
-    let z : getD (a .cells) p 0 ≡ 0 = ap (λ (c : List ℕ). getD c p 0) e ∙ getD-replicate {A = ℕ} cellsSize p 0 0 (omega arith) in
-    rw (z, science-ones (byteOf p) (once p l .is-byte), and-false (eqb (typeOf first) (carrier p))) (and-false (holdsCell (a .report .held) p))
+    let z = ap (λ c. getD c p 0) e ∙ getD-replicate {A = ℕ} cellsSize p 0 0 (omega arith) in
+    rw (z, science-ones (byteOf p) (once p l .is-byte), and-false) (and-false (holdsCell (a .report .held) p))
 
 none-filled : (os : List ClosedAccumulation) → Every (λ a. a .cells ≡ lent .finishedCells) os → sum (filledIn (first ∷ [])) os ≡ 0
 unfolding Every sum
@@ -204,7 +202,7 @@ module _ (R : Reader) where
   unfolding one Sends fed ExtraRefused traceOf
   stream-one = record {
     sent = (sent-five 100 5 refl, tt);
-    near = subst⁻¹ Near left-one (near-one first);
+    near = rw left-one (near-one first);
     within = unfold first Every in subst⁻¹ WithinTurns left-one (omega arith, tt);
     right = lent-sized;
     refused = tt;
@@ -214,7 +212,7 @@ module _ (R : Reader) where
   unfolding pair Sends fed ExtraRefused traceOf
   stream-both = record {
     sent = (sent-five 100 5 refl, (rw (real-five 100) (sent-six 101 6 refl), tt));
-    near = unfold first second in subst⁻¹ Near left-both (near-two first second (omega arith));
+    near = unfold first second in rw left-both (near-two first second (omega arith));
     within = unfold first second Every in subst⁻¹ WithinTurns left-both (omega arith, (omega arith, tt));
     right = lent-sized;
     refused = tt;
@@ -222,10 +220,10 @@ module _ (R : Reader) where
 
   module _ (meets : Meets R) where
     cells-one : cellsListed traceOne ≡ 83
-    cells-one = meets one lent 100 5 stream-one .0 .cells-sum ∙ ap (λ (g : List Kept). 83 * length g) real-one
+    cells-one = meets one lent 100 5 stream-one .0 .cells-sum ∙ ap (λ g. 83 * length g) real-one
 
     cells-both : cellsListed traceBoth ≡ 166
-    cells-both = meets pair lent 100 5 stream-both .0 .cells-sum ∙ ap (λ (g : List Kept). 83 * length g) real-both
+    cells-both = meets pair lent 100 5 stream-both .0 .cells-sum ∙ ap (λ g. 83 * length g) real-both
 
     -- "Made-up frame or cell counts break 3, since they are counted from the records fed"
     pub not-made-up : MadeUp R → ⊥
@@ -250,7 +248,7 @@ module _ (R : Reader) where
     not-both : (os : List ClosedAccumulation) → Every (λ a. framesHeld (a .report) ≤ 1) os → Pairwise Filled ((first ∷ second ∷ []) ∷ []) os → ⊥
     unfolding Every Pairwise
     not-both [] few h = h
-    not-both (a ∷ []) few h = omega (arith, few .0, h .0 .frames)
+    not-both (a ∷ []) few h = omega arith
     not-both (a ∷ b ∷ os) few h = h .1
 
     pub not-never-joining : NeverJoins R → ⊥
@@ -266,7 +264,7 @@ module _ (R : Reader) where
     frames-in : (g : List Kept) (n : ℕ) (os : List ClosedAccumulation) → Every (λ a. framesHeld (a .report) ≡ n) os → Pairwise Filled (g ∷ []) os → n ≡ length g
     unfolding Every Pairwise
     frames-in g n [] e h = absurd h
-    frames-in g n (a ∷ []) e h = sym (e .0) ∙ h .0 .frames
+    frames-in g n (a ∷ []) e h = omega arith
     frames-in g n (a ∷ b ∷ os) e h = absurd (h .1)
 
     pub not-fixed-frames : (n : ℕ) → FixedFrames R n → ⊥

@@ -4,7 +4,7 @@
 use mathlib.Core.Path.{_≡_, refl, sym, subst, _∙_}
 use mathlib.Core.Bool.{Bool, true, false, true≢false}
 use mathlib.Core.List.{List, [], _∷_, _++_}
-use Prim.Native.Nat.{ℕ, _+_, _-_, _%_, _^_, _<_, _≤_}
+use Prim.Native.Nat.{ℕ, _+_, _%_, _^_, _<_, _≤_}
 use native.Mathlib.Nat.{zero-add}
 use native.Mathlib.Omega.{arith}
 use lib.Dec.{ltb, leb}
@@ -44,8 +44,8 @@ module _ (h : Kept) (t : List Kept) (p : Kept) (o : ℕ) where
   unfolding putAll marked
   is-open =
       let m = 0 + 2 ^ typeOf h in
-      let some : 0 < marksFrom typeOf m t = marks-some typeOf t m (omega (arith, pow-pos (typeOf h))) in
-      rw (ne-eqb (marksFrom typeOf m t) 0 (λ z. omega (arith, some)))
+      let some = marks-some typeOf t m (omega (arith, pow-pos (typeOf h))) in
+      rw (ne-eqb (marksFrom typeOf m t) 0 (λ z. omega arith))
 
   closes : closing (openWith (h ∷ t) p o) (cellsFrom noCells (h ∷ t)) ≡ outOf (h ∷ t) ∷ []
   unfolding closing outOf
@@ -73,9 +73,9 @@ module _ (g : List Kept) (p f : Kept) (o c k l : ℕ) (t : Ties p o c k l) (n : 
       let a = two (isOpen (openWith g p o)) _ e in
       let b = two (ltb (typeOf p) (typeOf f)) _ (a .1) in
       let d = two (leb (fewest (typeOf p) (typeOf f)) (gap (openWith g p o) (at f))) _ (b .1) in
-      let u : typeOf p < typeOf f = ltb-true (typeOf p) (typeOf f) (b .0) in
+      let u = ltb-true (typeOf p) (typeOf f) (b .0) in
       let v : gap (openWith g p o) (at f) ≤ most (typeOf p) (typeOf f) = leb-true _ _ (d .1) in
-      record { same = omega (arith, gap-is, type-is); rising = u; near = omega (arith, gap-is) }
+      record { same = omega (arith, type-is); rising = u; near = omega arith }
 
   torn-so : isOpen (openWith g p o) ≡ true → joins (openWith g p o) (typeOf f) (at f) ≡ false → Parted p f
   unfolding joins
@@ -85,14 +85,14 @@ module _ (g : List Kept) (p f : Kept) (o c k l : ℕ) (t : Ties p o c k l) (n : 
       rises = omega (arith, type-is)
 
       few : fewest (typeOf p) (typeOf f) ≤ gap (openWith g p o) (at f)
-      few = omega (arith, type-is, gap-is)
+      few = omega (arith, type-is)
 
       go : (b : Bool) → leb (gap (openWith g p o) (at f)) (most (typeOf p) (typeOf f)) ≡ b → most (typeOf p) (typeOf f) < lostBetween p f
       go true q =
           let u = lt-ltb (typeOf p) (typeOf f) rises in
           let v = le-leb (fewest (typeOf p) (typeOf f)) (gap (openWith g p o) (at f)) few in
           absurd (true≢false (sym (rw (i, u, v, q) refl) ∙ e))
-      go false q = omega (arith, leb-false (gap (openWith g p o) (at f)) (most (typeOf p) (typeOf f)) q, gap-is)
+      go false q = omega (arith, leb-false (gap (openWith g p o) (at f)) (most (typeOf p) (typeOf f)) q)
 
 -- after a real-time record, after an other one
 ties-real : (f : Kept) (c k l : ℕ) → Next c k l f → realTime (f .bytes) ≡ true → Ties f 0 (at f + 1) (nextReal (f .serial) (f .bytes)) (f .lost)
@@ -148,7 +148,7 @@ module _ (x : Kept) (xs : List Kept) where
     -- what the joining rule says of the two
     module _ (e : realTime (x .bytes) ≡ true) (b : Bool) (j : joins (g .0) (typeOf x) (at x) ≡ b) where
       rule : joins (openWith (h ∷ t) p (o .others)) (typeOf x) (at x) ≡ b
-      rule = subst (λ (y : Accumulation × List ℕ). joins (y .0) (typeOf x) (at x) ≡ b) (o .is) j
+      rule = rw (o .is) at j
 
       in-one : b ≡ true → Joined p x
       unfolding Chain

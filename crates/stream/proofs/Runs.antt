@@ -6,6 +6,7 @@ use mathlib.Core.List.{List, [], _∷_}
 use Prim.Native.Nat.{ℕ}
 use lib.Dec.{eqb}
 use borrow.Author.Tests.{eqb-true, eqb-false}
+use Rattle.prelude.proofs.Conds.{cases}
 use Rattle.prelude.specs.Every.{Every}
 use Rattle.state.specs.Soundness.{sound}
 use Rattle.state.specs.Deciding.{Input, numberOf, acceptance, decidedOf, answerNumber}
@@ -17,17 +18,16 @@ use Rattle.state.proofs.Decisions.{accepted-is, refused-is}
 use Rattle.state.proofs.Keeping.{step-sound, end-sound}
 use Rattle.reader.specs.Buffers.{Buffers, sized}
 use Rattle.reader.specs.Steps.{input}
-use Rattle.stream.specs.Running.{Call, End, Reader, Trace, step, finish, traceOf, called, defined, run, StepAllowed, Allowed, states}
+use Rattle.stream.specs.Running.{Call, Reader, Trace, step, finish, traceOf, called, defined, run, StepAllowed, Allowed, states}
 use Rattle.stream.specs.Law.{Keeps}
 
 -- the number of a decision is that of its answer
 pub answered : (i : Input) → answerNumber (decidedOf i .stepped .answer) ≡ numberOf i
 unfolding answerNumber acceptance
-answered i = go (eqb (numberOf i) 0) refl
-  where
-    go : (t : Bool) → eqb (numberOf i) 0 ≡ t → answerNumber (decidedOf i .stepped .answer) ≡ numberOf i
-    go true t = ap (λ (x : Decided). answerNumber (x .stepped .answer)) (accepted-is i (eqb-true (numberOf i) 0 t)) ∙ sym (eqb-true (numberOf i) 0 t)
-    go false t = ap (λ (x : Decided). answerNumber (x .stepped .answer)) (refused-is i (eqb-false (numberOf i) 0 t))
+answered i =
+    cases (eqb (numberOf i) 0)
+    (λ t. ap (λ x. answerNumber (x .stepped .answer)) (accepted-is i (eqb-true (numberOf i) 0 t)) ∙ sym (eqb-true (numberOf i) 0 t))
+    (λ t. rw (refused-is i (eqb-false (numberOf i) 0 t)))
 
 pub finished : (s : State) (size : Bool) → endingNumber (endedOf s size .finished .ending) ≡ endNumber s size
 unfolding endedOf endingNumber
@@ -50,7 +50,7 @@ only-run [] s b (step c t) h = absurd h
 only-run (r ∷ rs) s b (finish e) h = absurd h
 only-run (r ∷ rs) s b (step c t) h =
     ap (step c) (only-run rs (c .result .state) (c .left) t (h .1))
-    ∙ ap (λ (x : Call). step x (run (x .result .state) (x .left) rs)) (only-call s b r c (h .0))
+    ∙ rw (only-call s b r c (h .0))
 
 -- the reader of the definitions keeps the promises
 pub defined-keeps : Keeps defined

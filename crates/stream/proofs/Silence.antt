@@ -16,10 +16,10 @@ lose c (suc n) xs = removed (made c 62) ∷ lose (c + 1) n xs
 
 pub lose-sent : (n c k : ℕ) (xs : List Fate) → Sends (c + n) k xs → Sends c k (lose c n xs)
 unfolding lose Sends
-lose-sent zero c k xs s = let e : c ≡ c + 0 = omega arith in subst⁻¹ (λ (d : ℕ). Sends d k xs) e s
+lose-sent zero c k xs s = let e : c ≡ c + 0 = omega arith in subst⁻¹ (λ d. Sends d k xs) e s
 lose-sent (suc n) c k xs s =
     let e : c + suc n ≡ c + 1 + n = omega arith in
-    (sent-filler c k, rw (other-filler c) (lose-sent n (c + 1) k xs (subst (λ (d : ℕ). Sends d k xs) e s)))
+    (sent-filler c k, rw (other-filler c) (lose-sent n (c + 1) k xs (subst (λ d. Sends d k xs) e s)))
 
 pub lose-many : (n c : ℕ) (xs : List Fate) → sentMany (lose c n xs) ≡ n + sentMany xs
 unfolding lose sentMany
@@ -35,7 +35,7 @@ lose-kept zero c k l xs = rw (add-zero c, add-zero l)
 lose-kept (suc n) c k l xs =
     let d : c + 1 + n ≡ c + suc n = omega arith in
     let e : l + 1 + n ≡ l + suc n = omega arith in
-    ap (λ (j : ℕ). keptOf (c + 1) j (l + 1) (lose (c + 1) n xs)) (next-filler k c) ∙ lose-kept n (c + 1) k (l + 1) xs ∙ rw (d, e)
+    ap (λ j. keptOf (c + 1) j (l + 1) (lose (c + 1) n xs)) (next-filler k c) ∙ lose-kept n (c + 1) k (l + 1) xs ∙ rw (d, e)
 
 pub lose-refused : (n c : ℕ) (xs : List Fate) (t : Trace) → ExtraRefused xs t → ExtraRefused (lose c n xs) t
 unfolding lose ExtraRefused

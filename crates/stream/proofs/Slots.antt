@@ -7,7 +7,7 @@ use mathlib.Core.List.{List, [], _∷_}
 use Prim.Native.Nat.{ℕ, _+_, _*_, _<_}
 use native.Mathlib.Omega.{arith}
 use lib.IntN.{ℤ, pos}
-use lib.ListN.{length, getD, set, getD-replicate, length-replicate}
+use lib.ListN.{length, getD, set, getD-replicate}
 use Rattle.prelude.specs.Marks.{marked}
 use Rattle.prelude.specs.Every.{Every}
 use Rattle.prelude.proofs.Built.{length-build, getD-build}
@@ -46,22 +46,22 @@ samplesOf f = samples (magBytes (packet f))
 module _ (g : List Kept) where
   slots-are : majorFrom noMajor g .slots ≡ marksFrom slot 0 g
   unfolding majorWith into
-  slots-are = put-part (λ (m : Major). m .slots) majorWith (λ f n. marked n (slot f)) (λ f m. refl) g noMajor
+  slots-are = put-part (λ m. m .slots) majorWith (λ f n. marked n (slot f)) (λ f m. refl) g noMajor
 
   words-are : majorFrom noMajor g .words ≡ putAll (λ f b. set b (slot f) (wordOf f)) (noMajor .words) g
   unfolding majorWith into
-  words-are = put-part (λ (m : Major). m .words) majorWith (λ f b. set b (slot f) (wordOf f)) (λ f m. refl) g noMajor
+  words-are = put-part (λ m. m .words) majorWith (λ f b. set b (slot f) (wordOf f)) (λ f m. refl) g noMajor
 
   mags-are : majorFrom noMajor g .«mag_slots» ≡ marksFrom slot 0 (magged g)
   unfolding majorWith into
   mags-are =
-      put-part (λ (m : Major). m .«mag_slots») majorWith (λ f n. cond (hasMag f) (marked n (slot f)) n) (λ f m. refl) g noMajor
+      put-part (λ m. m .«mag_slots») majorWith (λ f n. cond (hasMag f) (marked n (slot f)) n) (λ f m. refl) g noMajor
       ∙ put-those hasMag (λ f n. marked n (slot f)) g 0
 
   ranges-are : majorFrom noMajor g .ranges ≡ putAll (λ f b. set b (slot f) (rangeOf f)) (noMajor .ranges) (magged g)
   unfolding majorWith into
   ranges-are =
-      put-part (λ (m : Major). m .ranges) majorWith (λ f b. cond (hasMag f) (set b (slot f) (rangeOf f)) b) (λ f m. refl) g noMajor
+      put-part (λ m. m .ranges) majorWith (λ f b. cond (hasMag f) (set b (slot f) (rangeOf f)) b) (λ f m. refl) g noMajor
       ∙ put-those hasMag (λ f b. set b (slot f) (rangeOf f)) g (noMajor .ranges)
 
   samples-are : samplesFrom noSamples g ≡ putAll (λ f b. patch b (samplesSize * slot f) (samplesOf f)) noSamples (magged g)
@@ -93,7 +93,7 @@ module _ (g : List Kept) (r : Rising slot 0 g) where
   rm = rising-those hasMag slot g 0 r
 
   empty : length noSamples ≡ majorSamples
-  empty = length-replicate {A = ℤ} majorSamples (pos 0)
+  empty = omega arith
 
   -- of one with MAG
   sampled : (f : Kept) → In f g → hasMag f ≡ true → Sampled f whole
@@ -103,7 +103,7 @@ module _ (g : List Kept) (r : Rising slot 0 g) where
         marked = rw (mags-are g) (marks-set slot ms 0 rm f j);
         ranged = rw (ranges-are g) (stand (singles slot slots 0 rangeOf) ms (noMajor .ranges) 0 (below ms) rm refl f j);
         samples = λ k h.
-            ap (λ (s : List ℤ). getD s (samplesSize * slot f + k) (pos 0)) (samples-are g)
+            ap (λ s. getD s (samplesSize * slot f + k) (pos 0)) (samples-are g)
             ∙ stand (blocks slot slots (pos 0) samplesSize samplesOf k h) ms noSamples 0 (all-blocks ms) rm empty f j
             ∙ getD-build (sample (magBytes (packet f))) samplesSize k (pos 0) h;
       }
@@ -128,7 +128,7 @@ module _ (g : List Kept) (r : Rising slot 0 g) where
     unmarked = rw (mags-are g) (marks-free slot ms 0 rm i n);
     ranged = rw (ranges-are g) (stays (singles slot slots 0 rangeOf) ms (noMajor .ranges) 0 i (below ms) rm refl h n ∙ getD-replicate {A = ℕ} 16 i 0 0 h);
     samples = λ k j.
-        ap (λ (s : List ℤ). getD s (samplesSize * i + k) (pos 0)) (samples-are g)
+        ap (λ s. getD s (samplesSize * i + k) (pos 0)) (samples-are g)
         ∙ stays (blocks slot slots (pos 0) samplesSize samplesOf k j) ms noSamples 0 i (all-blocks ms) rm empty h n
         ∙ getD-replicate {A = ℤ} majorSamples (samplesSize * i + k) (pos 0) (pos 0) (omega arith);
   }
@@ -141,16 +141,17 @@ module _ (g : List Kept) (r : Rising slot 0 g) where
   }
 
   size : length (samplesFrom noSamples g) ≡ majorSamples
-  size =
-      ap length (samples-are g)
-      ∙ all-fit (blocks slot slots (pos 0) samplesSize samplesOf 0 (omega arith)) ms noSamples 0 slots (λ b l i e. e) (omega arith)
-      (below ms) (all-blocks ms) rm empty
+  size = rw (
+    samples-are g,
+    all-fit (blocks slot slots (pos 0) samplesSize samplesOf 0 (omega arith)) ms noSamples 0 slots (λ b l i e. e) (omega arith)
+        (below ms) (all-blocks ms) rm empty,
+  )
 
 pub major-filled : (f : Kept) (fs : List Kept) → Linked Beside f fs → MajorFilled (f ∷ fs) (majorOf (f ∷ fs))
 unfolding majorOf Rising Every
 major-filled f fs l =
     let g = f ∷ fs in
-    let r : Rising slot 0 g = (omega arith, rising-links (λ (x : Kept). slot x) Beside (λ p f j. omega (arith, j)) fs f l) in
+    let r : Rising slot 0 g = (omega arith, rising-links (λ x. slot x) Beside (λ p f j. omega arith) fs f l) in
     let same = all-share major Beside (λ p x h. h .0) fs f l in
     let number : majorFrom noMajor g .number ≡ major f =
     unfold putAll in number-stays fs (majorWith f noMajor) (major f) (unfold majorWith into in refl) (same .1) in

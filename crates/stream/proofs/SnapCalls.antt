@@ -1,6 +1,6 @@
 -- One call, as the open snapshot meets it: an accepted record moves it with its bytes, packet by packet.
 -- Assumes nothing.
-use mathlib.Core.Path.{_≡_, refl, sym, ap, subst⁻¹, _∙_}
+use mathlib.Core.Path.{_≡_, refl, sym, ap, _∙_}
 use mathlib.Core.Bool.{Bool, true, false, cond, not, _&&_, and-false, false≢true}
 use mathlib.Core.List.{List, [], _∷_, _++_, map, append-assoc}
 use Prim.Native.Nat.{ℕ, _+_, _≤_}
@@ -78,13 +78,13 @@ met-packet q s b es n = go (isPart (q .code)) (joins s (q .code)) refl
         ≡ cond p (cond j (gather snapping (snapping .puts q (d, s, b)) es) (snapClosing s b ++ gather snapping (snapping .opens q) es))
         (gather snapping (d, cutIf (cuts (q .code)) s, b) es)
     go true true e = refl
-    go true false e = rw (snap-out s b, n)
+    go true false e = rw (snap-out, n)
     go false j e = refl
 
 -- nothing is met of 0, which is no packet's type byte
 met-none : (d : ℕ) (bytes : List ℕ) → Met d 0 bytes []
 unfolding stepPacket isPart cuts
-met-none d bytes s b es n = rw (and-false (isOpen s))
+met-none d bytes s b es n = rw and-false
 
 -- the two packets of a record, one after the other
 module _ (d c₁ c₂ : ℕ) (b₁ b₂ : List ℕ) (ev₁ ev₂ : List Event) (one : Met d c₁ b₁ ev₁) (two : Met d c₂ b₂ ev₂)
@@ -103,10 +103,10 @@ module _ (d c₁ c₂ : ℕ) (b₁ b₂ : List ℕ) (ev₁ ev₂ : List Event) (
       ≡ snap d s b ((ev₁ ++ ev₂) ++ es)
   both-met =
       append-assoc (handedSnapshot (firstStep .report) b) (handedSnapshot (secondStep .report) between) _
-      ∙ ap (λ (z : List ClosedSnapshot). handedSnapshot (firstStep .report) b ++ z)
-      (two (firstStep .next) between es (packet-length (firstStep .work) b₁ b (λ h. omega (arith, lays-room s d c₁ h, short, n)) ∙ n))
+      ∙ ap (λ z. handedSnapshot (firstStep .report) b ++ z)
+      (two (firstStep .next) between es (packet-length (firstStep .work) b₁ b (λ h. omega (arith, lays-room s d c₁ h)) ∙ n))
       ∙ one s b (ev₂ ++ es) n
-      ∙ ap (λ (z : List Event). snap d s b z) (sym (append-assoc ev₁ ev₂ es))
+      ∙ rw (sym (append-assoc ev₁ ev₂ es))
 
 -- what the two finished buffers hand out is what the two packets close, in order
 outs-are : (x y : PacketStep) → PacketCloses (x .work .work) (x .report) → PacketCloses (y .work .work) (y .report) → (o a f s : List ℕ)
@@ -143,7 +143,7 @@ meeting n x h = go (carriesTwo k) (carriesBurst k) refl refl
     k = kindOf p
 
     l : length p ≡ packetSize
-    l = simp (length-take, length-drop) (omega (arith, h))
+    l = simp (length-take, length-drop) (omega arith)
 
     go : (t b : Bool) → carriesTwo k ≡ t → carriesBurst k ≡ b → Meeting n x
     go true true e f = record {
@@ -179,7 +179,7 @@ module _ (s : State) (b : Buffers) (x : Kept) (e : numberOf (input s b (x .bytes
 
   pub snaps-call : length (b .openSnapshot) ≡ snapshotSize → length (x .bytes) ≡ size → FromSnaps (called s b (x .bytes))
   unfolding acceptance snapshots stepSnapshot
-  snaps-call z h = subst⁻¹ FromSnaps (is-taken s b x e q) (λ g. go g)
+  snaps-call z h = rw (is-taken s b x e q) (λ g. go g)
     where
       m : Meeting n x
       m = meeting n x h
@@ -219,5 +219,5 @@ module _ (s : State) (b : Buffers) (x : Kept) (e : numberOf (input s b (x .bytes
           let o₁ = packetAfter (one .work) (burstBytes p false) o in
           rw (outs-are one two (packet-closes s₁ d c₁) (packet-closes (one .next) d c₂) o o₁ (b .firstSnapshot) (b .secondSnapshot), g)
           (both-met d c₁ c₂ (burstBytes p false) (burstBytes p true) (m .one) (m .two) (m .first) (m .second) (burst-short p false) s₁ o es z
-          ∙ ap (λ (ev : List Event). snap d s₁ o (ev ++ es)) (sym (m .are))
+          ∙ ap (λ ev. snap d s₁ o (ev ++ es)) (sym (m .are))
           ∙ met-events (s .clock .last) (s .snapshot) o n x xs)

@@ -66,7 +66,7 @@ snap c s b es = gather snapping (c, s, b) es
 -- what is taken in are the packets of types 36 to 55
 map-append : {A B : Type 0} (f : A → B) (g h : List A) → map f (g ++ h) ≡ map f g ++ map f h
 map-append f [] h = refl
-map-append f (x ∷ g) h = ap (λ z. f x ∷ z) (map-append f g h)
+map-append f (x ∷ g) h = rw (map-append f g h)
 
 taken-packets : (qs : List Packet) → map item (those takes (map packet qs)) ≡ those isPacket qs
 unfolding those takes item
@@ -75,7 +75,7 @@ taken-packets (q ∷ qs) = go (isPacket q) (taken-packets qs)
   where
     go : (b : Bool) → map item (those takes (map packet qs)) ≡ those isPacket qs
         → map item (cond b (packet q ∷ those takes (map packet qs)) (those takes (map packet qs))) ≡ cond b (q ∷ those isPacket qs) (those isPacket qs)
-    go true e = ap (λ (z : List Packet). q ∷ z) e
+    go true e = rw e
     go false e = e
 
 pub taken-are : (xs : List Kept) (n : ℕ) → takenBy snapping (eventsFrom n xs) ≡ those isPacket (packetsFrom n xs)
@@ -85,6 +85,6 @@ taken-are (x ∷ xs) n =
     let m = n + length (packetsOf n x) in
     ap (map item) (those-append takes (map packet (packetsOf n x)) (eventsFrom m xs))
     ∙ map-append item (those takes (map packet (packetsOf n x))) (those takes (eventsFrom m xs))
-    ∙ ap (λ (z : List Packet). z ++ takenBy snapping (eventsFrom m xs)) (taken-packets (packetsOf n x))
-    ∙ ap (λ (z : List Packet). those isPacket (packetsOf n x) ++ z) (taken-are xs m)
+    ∙ ap (λ z. z ++ takenBy snapping (eventsFrom m xs)) (taken-packets (packetsOf n x))
+    ∙ ap (λ z. those isPacket (packetsOf n x) ++ z) (taken-are xs m)
     ∙ sym (those-append isPacket (packetsOf n x) (packetsFrom m xs))

@@ -5,7 +5,7 @@ use mathlib.Core.Path.{_≡_, refl, sym, ap, subst, _∙_}
 use mathlib.Core.Bool.{Bool, true, false, cond, not, _&&_, _||_, or-true, or-false, true≢false, false≢true}
 use mathlib.Core.List.{List, [], _∷_, _++_, map}
 use mathlib.Core.Logic.{inl, inr}
-use Prim.Native.Nat.{ℕ, suc, _+_, _-_, _^_, _<_, _≤_}
+use Prim.Native.Nat.{ℕ, suc, _+_, _-_, _^_, _≤_}
 use native.Mathlib.Nat.{zero-add}
 use native.Mathlib.Omega.{arith}
 use lib.Dec.{eqb, ltb}
@@ -13,7 +13,7 @@ use lib.ListN.{length}
 use lib.Pow.{pow-pos}
 use borrow.Author.Tests.{eqb-true, eqb-false, eq-eqb, ne-eqb, ltb-true, ltb-false, lt-ltb}
 use Rattle.prelude.specs.Marks.{marked}
-use Rattle.prelude.proofs.Conds.{two}
+use Rattle.prelude.proofs.Conds.{cases, two}
 use Rattle.record.specs.Frame.{carriesBurst, carriesTwo}
 use Rattle.record.specs.Contents.{recordOf}
 use Rattle.snapshot.specs.Snapshot.{isOpen, noSnapshot, packetType, cuts, joins}
@@ -45,16 +45,15 @@ held-open : (h : Packet) (t : List Packet) → not (eqb (marksFrom mark 0 (h ∷
 unfolding putAll marked
 held-open h t =
     let m = 0 + 2 ^ mark h in
-    let some : 0 < marksFrom mark m t = marks-some mark t m (omega (arith, pow-pos (mark h))) in
-    rw (ne-eqb (marksFrom mark m t) 0 (λ z. omega (arith, some)))
+    let some = marks-some mark t m (omega (arith, pow-pos (mark h))) in
+    rw (ne-eqb (marksFrom mark m t) 0 (λ z. omega arith))
 
 -- the cut mark by what was lost since, n of m, and by what cut since
 more-lost : (c b : Bool) (l n m : ℕ) → m ≤ l → l ≤ n → c ≡ (not (eqb l m) || b) → (not (eqb n l) || c) ≡ (not (eqb n m) || b)
-more-lost c b l n m p q e = go (eqb n l) refl
-  where
-    go : (t : Bool) → eqb n l ≡ t → (not t || c) ≡ (not (eqb n m) || b)
-    go true t = rw (eqb-true n l t) e
-    go false t = let d = eqb-false n l t in rw (ne-eqb n m (λ z. d (omega arith)))
+more-lost c b l n m p q e =
+    cases (eqb n l)
+    (λ t. rw t (rw (eqb-true n l t) e))
+    (λ t. rw t (let d = eqb-false n l t in rw (ne-eqb n m (λ z. d (omega arith)))))
 
 nothing-lost : (l m : ℕ) (b c : Bool) → c ≡ (not (eqb l m) || b) → not c ≡ true → (l ≡ m) × (b ≡ false)
 nothing-lost l m b c e h = go (eqb l m) b refl (ap not (sym e) ∙ h)
@@ -66,8 +65,8 @@ nothing-lost l m b c e h = go (eqb l m) b refl (ap not (sym e) ∙ h)
 
 -- a packet more that may cut
 turned : (c l b : Bool) → ((true && c) || (l || b)) ≡ (l || (b || c))
-turned true l b = sym (ap (λ (z : Bool). l || z) (or-true b) ∙ or-true l)
-turned false l b = ap (λ (z : Bool). l || z) (sym (or-false b))
+turned true l b = sym (ap (λ z. l || z) (or-true b) ∙ or-true l)
+turned false l b = ap (λ z. l || z) (sym (or-false b))
 
 neither : (b c : Bool) → (b || c) ≡ false → (b ≡ false) × (c ≡ false)
 neither true c e = absurd (true≢false e)
@@ -94,17 +93,16 @@ module _ (ks : List Kept) (c₀ k₀ : ℕ) (chained : Chain c₀ k₀ 0 ks) whe
         go true t = unaccepted-lost ks c₀ k₀ 0 chained p f i j (ltb-true (at p) (at f) t) ∙ none
           where
             none : lostBetween p f ≡ 0
-            none = omega (arith, e)
+            none = omega arith
         go false t =
             let z : at f - (at p + 1) ≡ 0 = omega (arith, ltb-false (at p) (at f) t) in
             ap (total _) z ∙ unfold total in refl
 
     kept-all : p .lost ≤ f .lost → unaccepted ks (at p) (at f) ≡ 0 → f .lost ≡ p .lost
-    kept-all l e = go (ltb (at p) (at f)) refl
-      where
-        go : (t : Bool) → ltb (at p) (at f) ≡ t → f .lost ≡ p .lost
-        go true t = omega (arith, l, e, unaccepted-lost ks c₀ k₀ 0 chained p f i j (ltb-true (at p) (at f) t))
-        go false t = ap (λ (y : Kept). y .lost) (sym (same-frame (omega (arith, up, ltb-false (at p) (at f) t))))
+    kept-all l e =
+        cases (ltb (at p) (at f))
+        (λ t. omega (arith, unaccepted-lost ks c₀ k₀ 0 chained p f i j (ltb-true (at p) (at f) t)))
+        (λ t. ap (λ (y : Kept). y .lost) (sym (same-frame (omega (arith, up, ltb-false (at p) (at f) t)))))
 
   -- what is to come: count c next, so many lost so far, and packet number n next
   record Framed (c lost : ℕ) (x : Kept) : Type 0 where
@@ -141,9 +139,9 @@ module _ (ks : List Kept) (c₀ k₀ : ℕ) (chained : Chain c₀ k₀ 0 ks) whe
       packed m q e f i = record {
         number = e;
         is = i;
-        now = ap (λ (y : Kept). at y + 1) f;
-        lost-is = ap (λ (y : Kept). y .lost) f;
-        kept = subst (λ (y : Kept). In y ks) (sym f) (a x (inl refl));
+        now = ap (λ y. at y + 1) f;
+        lost-is = ap (λ y. y .lost) f;
+        kept = subst (λ y. In y ks) (sym f) (a x (inl refl));
       }
 
       go : (t u : Bool) → ((i : ℕ) (q : Packet) → At i q (these t u ++ packetsFrom (n + length (these t u)) xs) → At (n + i) q (burstPackets ks))
@@ -152,12 +150,12 @@ module _ (ks : List Kept) (c₀ k₀ : ℕ) (chained : Chain c₀ k₀ 0 ks) whe
       go true u b ih =
           let zero-is : n + 0 ≡ n = omega arith in
           let two-is : n + 2 ≡ n + 1 + 1 = omega arith in
-          let here = subst (λ (m : ℕ). At m (firstOf n x) (burstPackets ks)) zero-is (b 0 (firstOf n x) refl) in
-          let rest = ih (n + 2) (λ i q j. subst (λ (m : ℕ). At m q (burstPackets ks)) (next-is i) (b (suc (suc i)) q j)) in (
+          let here = subst (λ m. At m (firstOf n x) (burstPackets ks)) zero-is (b 0 (firstOf n x) refl) in
+          let rest = ih (n + 2) (λ i q j. subst (λ m. At m q (burstPackets ks)) (next-is i) (b (suc (suc i)) q j)) in (
             packed n (firstOf n x) refl refl here,
             (
               packed (n + 1) (secondOf (n + 1) x) refl refl (b 1 (secondOf (n + 1) x) refl),
-              subst (λ (m : ℕ). Coming (at x + 1) (x .lost) m (eventsFrom (n + 2) xs)) two-is rest,
+              subst (λ m. Coming (at x + 1) (x .lost) m (eventsFrom (n + 2) xs)) two-is rest,
             ),
           )
         where
@@ -165,15 +163,15 @@ module _ (ks : List Kept) (c₀ k₀ : ℕ) (chained : Chain c₀ k₀ 0 ks) whe
           next-is i = omega arith
       go false true b ih =
           let zero-is : n + 0 ≡ n = omega arith in
-          let here = subst (λ (m : ℕ). At m (firstOf n x) (burstPackets ks)) zero-is (b 0 (firstOf n x) refl) in
-          (packed n (firstOf n x) refl refl here, ih (n + 1) (λ i q j. subst (λ (m : ℕ). At m q (burstPackets ks)) (next-is i) (b (suc i) q j)))
+          let here = rw zero-is at (b 0 (firstOf n x) refl) in
+          (packed n (firstOf n x) refl refl here, ih (n + 1) (λ i q j. subst (λ m. At m q (burstPackets ks)) (next-is i) (b (suc i) q j)))
         where
           next-is : (i : ℕ) → n + suc i ≡ n + 1 + i
           next-is i = omega arith
       go false false b ih =
           let zero-is : n + 0 ≡ n = omega arith in
-          subst (λ (m : ℕ). Coming (at x + 1) (x .lost) m (eventsFrom (n + 0) xs)) zero-is
-          (ih (n + 0) (λ i q j. subst (λ (m : ℕ). At m q (burstPackets ks)) (same-is i) (b i q j)))
+          subst (λ m. Coming (at x + 1) (x .lost) m (eventsFrom (n + 0) xs)) zero-is
+          (ih (n + 0) (λ i q j. rw (same-is i) at (b i q j)))
         where
           same-is : (i : ℕ) → n + i ≡ n + 0 + i
           same-is i = omega arith
@@ -220,7 +218,7 @@ module _ (ks : List Kept) (c₀ k₀ : ℕ) (chained : Chain c₀ k₀ 0 ks) whe
         before = omega arith;
         since = omega arith;
         numbers = omega arith;
-        cut = rw (eq-eqb (q .frame .lost) (q .frame .lost) refl, between-same (burstPackets ks) (q .number)) refl;
+        cut = rw (eq-eqb, between-same) refl;
         comes = rw (k .now, k .lost-is, k .number) (w .1);
       }
 
@@ -250,7 +248,7 @@ module _ (ks : List Kept) (c₀ k₀ : ℕ) (chained : Chain c₀ k₀ 0 ks) whe
         last = o .last;
         bytes = o .bytes;
         kept = o .kept;
-        before = omega (arith, o .before, k .counted, k .losing);
+        before = omega arith;
         since = omega (arith, o .since, k .losing);
         numbers = o .numbers;
         cut = rw (i, next-is) (more-lost (g .1 .cut) _ (o .lost) (x .lost) (p .frame .lost) (o .since) (k .losing) (o .cut));
@@ -258,18 +256,17 @@ module _ (ks : List Kept) (c₀ k₀ : ℕ) (chained : Chain c₀ k₀ 0 ks) whe
       }
     where
       next-is : eqb (at x) (g .0 + 1) ≡ eqb (x .lost) (o .lost)
-      next-is = go (eqb (x .lost) (o .lost)) refl
-        where
-          go : (b : Bool) → eqb (x .lost) (o .lost) ≡ b → eqb (at x) (g .0 + 1) ≡ b
-          go true e = eq-eqb (at x) (g .0 + 1) (omega (arith, eqb-true (x .lost) (o .lost) e, o .comes .0 .counted))
-          go false e = ne-eqb (at x) (g .0 + 1) (λ z. eqb-false (x .lost) (o .lost) e (omega (arith, o .comes .0 .counted)))
+      next-is =
+          cases (eqb (x .lost) (o .lost))
+          (λ e. rw e (eq-eqb (at x) (g .0 + 1) (omega (arith, eqb-true (x .lost) (o .lost) e))))
+          (λ e. rw e (ne-eqb (at x) (g .0 + 1) (λ z. eqb-false (x .lost) (o .lost) e (omega (arith, o .comes .0 .counted)))))
   open-passes h t p g (packet q) es o =
       let k = o .comes .0 in
       let i = is-open h t p g (packet q ∷ es) o in
       let b = cutBetween (burstPackets ks) (p .number) (o .number) in
       let c = cutBetween (burstPackets ks) (p .number) (o .number + 1) in
       let lost = not (eqb (o .lost) (p .frame .lost)) in
-      let more : c ≡ (b || cuts (q .code)) = ap (cutBetween (burstPackets ks) (p .number)) (sym (k .number)) ∙ one-more p q _ _ (o .number) k (o .numbers) in
+      let more = ap (cutBetween (burstPackets ks) (p .number)) (sym (k .number)) ∙ one-more p q _ _ (o .number) k (o .numbers) in
       record {
         lost = o .lost;
         number = o .number + 1;

@@ -1,8 +1,8 @@
 -- Numbers summed over what is handed out are those of the records in it.
 -- Assumes nothing.
-use mathlib.Core.Path.{_≡_, refl, ap, _∙_}
+use mathlib.Core.Path.{_≡_, refl, _∙_}
 use mathlib.Core.List.{List, [], _++_}
-use Prim.Native.Nat.{ℕ, _+_, _*_}
+use Prim.Native.Nat.{_+_, _*_}
 use native.Mathlib.Omega.{arith}
 use lib.ListN.{length, length-append}
 use Rattle.mag.specs.Samples.{samplesSize}
@@ -13,7 +13,7 @@ use Rattle.gathering.specs.Lists.{Pairwise, flat, sum, those}
 use Rattle.gathering.proofs.Those.{those-append}
 use Rattle.gathering.proofs.Totals.{sum-is}
 use Rattle.stream.specs.Running.{ClosedAccumulation, ClosedMajor, ClosedSnapshot}
-use Rattle.stream.specs.Sending.{Kept, hasMag, magged}
+use Rattle.stream.specs.Sending.{Kept, magged}
 use Rattle.stream.specs.Filling.{Filled, MajorFilled}
 use Rattle.stream.specs.Bursts.{Packet}
 use Rattle.stream.specs.Snapshots.{SnapshotFilled}
@@ -24,26 +24,26 @@ unfolding those
 mags-none = refl
 
 mags-length : (g h : List Kept) → length (magged (g ++ h)) ≡ length (magged g) + length (magged h)
-mags-length g h = ap length (those-append hasMag g h) ∙ length-append (magged g) (magged h)
+mags-length g h = rw (those-append, length-append)
 
 -- the listing's numbers
 module _ (gs : List (List Kept)) where
   pub cells-total : (os : List ClosedAccumulation) → Pairwise Filled gs os → sum (λ a. cellsHeld (a .report)) os ≡ scienceSize * length (flat gs)
   cells-total =
       sum-is Filled (λ a. cellsHeld (a .report)) (λ g. scienceSize * length g)
-      refl (λ g h. omega (arith, length-append g h)) (λ g a f. ap (λ (n : ℕ). scienceSize * n) (f .frames)) gs
+      refl (λ g h. omega (arith, length-append g h)) (λ g a f. rw (f .frames)) gs
 
   -- the sum of the cells filled
   pub filled-total : (os : List ClosedAccumulation) → Pairwise Filled gs os → sum (λ a. cellsIn (a .report .held)) os ≡ scienceSize * length (flat gs)
   filled-total =
       sum-is Filled (λ a. cellsIn (a .report .held)) (λ g. scienceSize * length g)
-      refl (λ g h. omega (arith, length-append g h)) (λ g a f. cells-held (a .report .held) (f .among) ∙ ap (λ (n : ℕ). scienceSize * n) (f .frames)) gs
+      refl (λ g h. omega (arith, length-append g h)) (λ g a f. cells-held (a .report .held) (f .among) ∙ rw (f .frames)) gs
 
   module _ (os : List ClosedMajor) (h : Pairwise MajorFilled gs os) where
     pub samples-total : sum (λ m. samplesHeld (m .frame)) os ≡ samplesSize * length (magged (flat gs))
     samples-total =
         sum-is MajorFilled (λ m. samplesHeld (m .frame)) (λ g. samplesSize * length (magged g))
-        (ap (λ (n : ℕ). samplesSize * n) mags-none) (λ g h. omega (arith, mags-length g h)) (λ g m f. ap (λ (n : ℕ). samplesSize * n) (f .mags)) gs os h
+        (rw mags-none) (λ g h. omega (arith, mags-length g h)) (λ g m f. rw (f .mags)) gs os h
 
     pub slots-total : sum (λ m. slotsHeld (m .frame)) os ≡ length (flat gs)
     slots-total = sum-is MajorFilled (λ m. slotsHeld (m .frame)) length refl length-append (λ g m f. f .held) gs os h
@@ -52,4 +52,4 @@ pub snaps-total : (ps : List (List Packet)) (os : List ClosedSnapshot) → Pairw
     → sum (λ s. snapCellsHeld (s .report)) os ≡ burstSize * length (flat ps)
 snaps-total =
     sum-is SnapshotFilled (λ s. snapCellsHeld (s .report)) (λ g. burstSize * length g)
-    refl (λ g h. omega (arith, length-append g h)) (λ g s f. ap (λ (n : ℕ). burstSize * n) (f .held))
+    refl (λ g h. omega (arith, length-append g h)) (λ g s f. rw (f .held))

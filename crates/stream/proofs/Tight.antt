@@ -13,7 +13,7 @@ use Rattle.state.specs.Soundness.{fresh}
 use Rattle.gathering.specs.Lists.{Some, Pairwise, Neighbours, those}
 use Rattle.stream.specs.Running.{Trace, run, traceOf, ClosedAccumulation, accumulations}
 use Rattle.stream.specs.Sending.{Fate, kept, Sends, fed, ExtraRefused, Kept, keptOf, reals}
-use Rattle.stream.specs.Sending.{unspoiled, realUnspoiled, Near, WithinTurns, Stream}
+use Rattle.stream.specs.Sending.{unspoiled, realUnspoiled, WithinTurns, Stream}
 use Rattle.stream.specs.Cutting.{typeOf, tears, Joined, Parted, at, unaccepted}
 use Rattle.stream.specs.Filling.{Filled}
 use Rattle.stream.specs.Once.{Own}
@@ -78,7 +78,7 @@ out = accumulations ran
 
 all-kept : unspoiled 100 5 stream ≡ before ∷ after ∷ []
 unfolding stream unspoiled keptOf before after
-all-kept = rw (real-five 100, lose-kept 36 101 6 0 behind)
+all-kept = rw (real-five 100, lose-kept)
 
 are-kept : left ≡ before ∷ after ∷ []
 unfolding those before after
@@ -88,7 +88,7 @@ fed-stream : Stream 100 5 stream lent ran
 unfolding stream ExtraRefused traceOf fed
 fed-stream = record {
   sent = sent;
-  near = unfold before after in subst⁻¹ Near all-kept (near-two before after (omega arith));
+  near = unfold before after in rw all-kept (near-two before after (omega arith));
   within = unfold before after Every in subst⁻¹ WithinTurns all-kept (omega arith, (omega arith, tt));
   right = lent-sized;
   refused = rw (lose-fed 36 101 behind) (lose-refused 36 101 behind _ tt);
@@ -105,7 +105,7 @@ type-after = six 137 .typed
 -- 36 are more than may be missing between types 5 and 6
 far : Joined before after → ⊥
 unfolding before after
-far j = omega (arith, j .near, type-before, type-after)
+far j = omega (arith, type-before, type-after)
 
 -- an accumulation of the one alone hasn't the type of the other
 alone : (p f : Kept) (a : ClosedAccumulation) → typeOf f < types → (typeOf p ≡ typeOf f → ⊥) → Filled (p ∷ []) a
@@ -135,7 +135,7 @@ stands-apart =
 
 neighbours : Neighbours before after left
 unfolding Neighbours
-neighbours = subst⁻¹ (Neighbours before after) are-kept (inl (refl, refl))
+neighbours = rw are-kept (inl (refl, refl))
 
 lost-36 : unaccepted (unspoiled 100 5 stream) (at before) (at after) ≡ 36
 unfolding before after

@@ -12,15 +12,6 @@ returns c = let a = c .before .args in no-anode (a .anode) (a .phase) (omega ari
 returns-2 : tie.Need-returns-2
 returns-2 c = let a = c .before .before .args in no-phase (a .anode) (a .phase) (omega arith) (omega arith)
 
-mul-row : tie.Need-mul-row
-mul-row c = search needs
-
-array-copy-out-row : tie.Need-array-copy-out-row
-array-copy-out-row c = search needs
-
-cast-t26 : tie.Need-cast-t26
-cast-t26 c = search needs
-
 div-t27 : tie.Need-div-t27
 unfolding table
 div-t27 c = let a = c .before .before .before .before .args in can-divide (a .anode) (a .phase) (omega arith)
@@ -37,5 +28,4 @@ returns-3 c = let a = c .before .before .before .before .before .args in at-angl
 
 pub angle-of-spec : {M : Type 1} → statement M
 angle-of-spec =
-    tie.close
-    (tie.spec returns returns-2 mul-row array-copy-out-row cast-t26 div-t27 add-t28 returns-3)
+    tie.close (tie.spec returns returns-2 (search needs) (search needs) (search needs) div-t27 add-t28 returns-3)

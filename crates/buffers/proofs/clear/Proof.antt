@@ -17,29 +17,13 @@ Inv-loop buffer₀ i₀ buffer i = (i ≤ length buffer₀) × (buffer ≡ repli
 abbrev μ-loop : tie.MeasureT-loop
 μ-loop buffer₀ i₀ buffer i = length buffer₀ - i
 
-loop-holds : tie.Need-loop-holds Inv-loop μ-loop
-loop-holds c = search needs
-
-slice-write-buffer : tie.Need-slice-write-buffer Inv-loop μ-loop
-slice-write-buffer c = search needs
-
-add-i : tie.Need-add-i Inv-loop μ-loop
-add-i c = search needs
-
-loop-less : tie.Need-loop-less Inv-loop μ-loop
-loop-less c = search needs
-
 loop-again : tie.Need-loop-again Inv-loop μ-loop
 loop-again c =
-    let l = c .before in
-    let a₀ = now (l .before .args .buffer) in (
+    let l = c .before in (
       search needs,
-      ap (λ (a : List ℕ). set a (l .loop .i) 0) (l .loop .inv .1) ∙ fill-more 0 (l .loop .i) a₀ (omega arith),
+      ap (λ (a : List ℕ). set a (l .loop .i) 0) (l .loop .inv .1) ∙ fill-more 0 (l .loop .i) (now (l .before .args .buffer)) (omega arith),
       search needs,
     )
-
-same-length : tie.Need-same-length Inv-loop μ-loop
-same-length c = search needs
 
 returns : tie.Need-returns Inv-loop μ-loop
 returns c =
@@ -49,13 +33,5 @@ returns c =
 pub clear-spec : {M : Type 1} → statement M
 clear-spec =
     tie.close
-    (tie.spec
-    Inv-loop
-    μ-loop
-    loop-holds
-    slice-write-buffer
-    add-i
-    loop-less
-    loop-again
-    same-length
+    (tie.spec Inv-loop μ-loop (search needs) (search needs) (search needs) (search needs) loop-again (search needs)
     returns)

@@ -27,24 +27,6 @@ abbrev μ-loop2 : tie.MeasureT-loop2
 returns : tie.Need-returns Inv-loop μ-loop Inv-loop2 μ-loop2
 returns c = let a = c .before .before .before .args in copy-none (now (a .from)) (now (a .to)) (c .if1 .taken)
 
-loop-holds : tie.Need-loop-holds Inv-loop μ-loop Inv-loop2 μ-loop2
-loop-holds c = search needs
-
-sub-loop : tie.Need-sub-loop Inv-loop μ-loop Inv-loop2 μ-loop2
-sub-loop c = search needs
-
-read-block-requires : tie.Need-read-block-requires Inv-loop μ-loop Inv-loop2 μ-loop2
-read-block-requires c κs = search needs
-
-put-block-requires : tie.Need-put-block-requires Inv-loop μ-loop Inv-loop2 μ-loop2
-put-block-requires c κs = search needs
-
-add-i : tie.Need-add-i Inv-loop μ-loop Inv-loop2 μ-loop2
-add-i c = search needs
-
-loop-less : tie.Need-loop-less Inv-loop μ-loop Inv-loop2 μ-loop2
-loop-less c = search needs
-
 loop-again : tie.Need-loop-again Inv-loop μ-loop Inv-loop2 μ-loop2
 loop-again c =
     let b = c .before .before .before .before in
@@ -64,18 +46,6 @@ loop2-holds c =
     let a = c .before .before .before .before .before .args in
     (search needs, copy-start (l .i) (now (a .from)) (now (a .to)) (l .to) (l .inv .0) (l .inv .1), search needs)
 
-shared-slice-read-to : tie.Need-shared-slice-read-to Inv-loop μ-loop Inv-loop2 μ-loop2
-shared-slice-read-to c = search needs
-
-slice-write-to : tie.Need-slice-write-to Inv-loop μ-loop Inv-loop2 μ-loop2
-slice-write-to c = search needs
-
-add-i-2 : tie.Need-add-i-2 Inv-loop μ-loop Inv-loop2 μ-loop2
-add-i-2 c = search needs
-
-loop2-less : tie.Need-loop2-less Inv-loop μ-loop Inv-loop2 μ-loop2
-loop2-less c = search needs
-
 loop2-again : tie.Need-loop2-again Inv-loop μ-loop Inv-loop2 μ-loop2
 loop2-again c =
     let l = c .before .before .loop2 in
@@ -87,9 +57,6 @@ loop2-again c =
       search needs,
     )
 
-same-length : tie.Need-same-length Inv-loop μ-loop Inv-loop2 μ-loop2
-same-length c = search needs
-
 returns-2 : tie.Need-returns-2 Inv-loop μ-loop Inv-loop2 μ-loop2
 returns-2 c =
     let l = c .before .loop2 in
@@ -100,24 +67,6 @@ returns-2 c =
 pub copy-spec : {M : Type 1} → statement M
 copy-spec =
     tie.close
-    (tie.spec
-    Inv-loop
-    μ-loop
-    Inv-loop2
-    μ-loop2
-    returns
-    loop-holds
-    sub-loop
-    read-block-requires
-    put-block-requires
-    add-i
-    loop-less
-    loop-again
-    loop2-holds
-    shared-slice-read-to
-    slice-write-to
-    add-i-2
-    loop2-less
-    loop2-again
-    same-length
-    returns-2)
+    (tie.spec Inv-loop μ-loop Inv-loop2 μ-loop2 returns (search needs) (search needs) (search needs) (search needs)
+    (search needs) (search needs) loop-again loop2-holds (search needs) (search needs) (search needs) (search needs)
+    loop2-again (search needs) returns-2)

@@ -9,9 +9,6 @@ use borrow.Author.Needs.{needs}
 use Rattle.buffers.proofs.lay.Statement.{statement}
 use Rattle.buffers.proofs.lay.Tie as tie
 
-has-room-requires : tie.Need-has-room-requires
-has-room-requires c κs = search needs
-
 returns : tie.Need-returns
 returns c =
     let a = c .before .before .before .before .args in
@@ -23,22 +20,10 @@ add-copy c =
     let h = has-room (now (a .to)) (a .at) (length (now (a .from))) _ (c .before .has-room .ensures) (c .if1 .left) in
     search needs
 
-sub-copy : tie.Need-sub-copy
-sub-copy c = search needs
-
-part-copy-start : tie.Need-part-copy-start
-part-copy-start c = search needs
-
 part-copy-end : tie.Need-part-copy-end
 part-copy-end c =
     let a = c .before .before .before .before .args in
     omega (arith, has-room (now (a .to)) (a .at) (length (now (a .from))) _ (c .before .has-room .ensures) (c .if1 .left))
-
-copy-requires : tie.Need-copy-requires
-copy-requires c κs = search needs
-
-same-length : tie.Need-same-length
-same-length c = search needs
 
 returns-2 : tie.Need-returns-2
 returns-2 c =
@@ -50,13 +35,5 @@ returns-2 c =
 pub lay-spec : {M : Type 1} → statement M
 lay-spec =
     tie.close
-    (tie.spec
-    has-room-requires
-    returns
-    add-copy
-    sub-copy
-    part-copy-start
-    part-copy-end
-    copy-requires
-    same-length
-    returns-2)
+    (tie.spec (search needs) returns add-copy (search needs) (search needs) part-copy-end (search needs)
+    (search needs) returns-2)

@@ -6,15 +6,6 @@ use borrow.Author.Needs.{needs}
 use Rattle.c_answers.proofs.hand_byte.Statement.{statement}
 use Rattle.c_answers.proofs.hand_byte.Tie as tie
 
-enum-known-answer : tie.Need-enum-known-answer
-enum-known-answer c = search needs
-
-enum-told : tie.Need-enum-told
-enum-told c = search needs
-
-enum-told-2 : tie.Need-enum-told-2
-enum-told-2 c = search needs
-
 returns : tie.Need-returns
 unfolding wordsNumber rawSaid
 returns c = search needs
@@ -29,4 +20,4 @@ returns-3 c = search needs
 
 pub hand-byte-spec : {M : Type 1} → statement M
 hand-byte-spec =
-    tie.close (tie.spec enum-known-answer enum-told enum-told-2 returns returns-2 returns-3)
+    tie.close (tie.spec (search needs) (search needs) (search needs) returns returns-2 returns-3)

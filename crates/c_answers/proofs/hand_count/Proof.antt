@@ -8,21 +8,6 @@ use borrow.Author.Needs.{needs}
 use Rattle.c_answers.proofs.hand_count.Statement.{statement}
 use Rattle.c_answers.proofs.hand_count.Tie as tie
 
-enum-known-answer : tie.Need-enum-known-answer
-enum-known-answer c = search needs
-
-give-requires : tie.Need-give-requires
-give-requires c κs = search needs
-
-enum-told : tie.Need-enum-told
-enum-told c = search needs
-
-enum-told-2 : tie.Need-enum-told-2
-enum-told-2 c = search needs
-
-enum-told-3 : tie.Need-enum-told-3
-enum-told-3 c = search needs
-
 returns : tie.Need-returns
 returns c =
     let k = c .before .before .before .before in
@@ -44,13 +29,5 @@ returns-4 c = let a = c .before .before .args in handed (a .answer) _ (now (a .l
 pub hand-count-spec : {M : Type 1} → statement M
 hand-count-spec =
     tie.close
-    (tie.spec
-    enum-known-answer
-    give-requires
-    enum-told
-    enum-told-2
-    enum-told-3
-    returns
-    returns-2
-    returns-3
-    returns-4)
+    (tie.spec (search needs) (λ c κs. search needs) (search needs) (search needs) (search needs) returns returns-2
+    returns-3 returns-4)

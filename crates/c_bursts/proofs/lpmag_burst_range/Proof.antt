@@ -9,12 +9,6 @@ use Rattle.c_bursts.proofs.lpmag_burst_range.Tie as tie
 returns : tie.Need-returns
 returns c = let a = c .before .before .args in range-off (now (a .r)) (a .which) (c .if1 .taken)
 
-range-requires : tie.Need-range-requires
-range-requires c κs = search needs
-
-hand-range-requires : tie.Need-hand-range-requires
-hand-range-requires c κs = search needs
-
 returns-2 : tie.Need-returns-2
 returns-2 c =
     let k = c .before in
@@ -22,4 +16,5 @@ returns-2 c =
     range-told (now (a .r)) (a .which) (k .before .if1 .left) (k .range .result) (k .range .ensures) _ (c .hand-range .ensures)
 
 pub lpmag-burst-range-spec : {M : Type 1} → statement M
-lpmag-burst-range-spec = tie.close (tie.spec returns range-requires hand-range-requires returns-2)
+lpmag-burst-range-spec =
+    tie.close (tie.spec returns (λ c κs. search needs) (λ c κs. search needs) returns-2)

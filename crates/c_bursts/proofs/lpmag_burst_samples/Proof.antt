@@ -9,15 +9,6 @@ use Rattle.c_bursts.proofs.lpmag_burst_samples.Tie as tie
 returns : tie.Need-returns
 returns c = let a = c .before .before .args in samples-off (now (a .r)) (a .which) (now (a .room)) (c .if1 .taken)
 
-samples-requires : tie.Need-samples-requires
-samples-requires c κs = search needs
-
-hand-range-requires : tie.Need-hand-range-requires
-hand-range-requires c κs = search needs
-
-same-length : tie.Need-same-length
-same-length c = search needs
-
 returns-2 : tie.Need-returns-2
 returns-2 c =
     let k = c .before .before in
@@ -26,4 +17,5 @@ returns-2 c =
     samples-told (now (a .r)) (a .which) (now (a .room)) (i .if1 .left) (k .samples .result) _ (k .samples .ensures) _ (c .hand-range .ensures)
 
 pub lpmag-burst-samples-spec : {M : Type 1} → statement M
-lpmag-burst-samples-spec = tie.close (tie.spec returns samples-requires hand-range-requires same-length returns-2)
+lpmag-burst-samples-spec =
+    tie.close (tie.spec returns (λ c κs. search needs) (λ c κs. search needs) (search needs) returns-2)

@@ -5,14 +5,9 @@ use borrow.Author.Needs.{needs}
 use Rattle.c_bursts.proofs.lpmag_snapshot_angle.Statement.{statement}
 use Rattle.c_bursts.proofs.lpmag_snapshot_angle.Tie as tie
 
-mag-angle-requires : tie.Need-mag-angle-requires
-mag-angle-requires c κs = search needs
-
-hand-byte-requires : tie.Need-hand-byte-requires
-hand-byte-requires c κs = search needs
-
 returns : tie.Need-returns
 returns c = let k = c .before .before in byte-told _ _ _ _ _ _ (k .mag-angle .result) (k .mag-angle .ensures) (c .hand-byte .ensures)
 
 pub lpmag-snapshot-angle-spec : {M : Type 1} → statement M
-lpmag-snapshot-angle-spec = tie.close (tie.spec mag-angle-requires hand-byte-requires returns)
+lpmag-snapshot-angle-spec =
+    tie.close (tie.spec (λ c κs. search needs) (λ c κs. search needs) returns)

@@ -6,12 +6,6 @@ use borrow.Author.Needs.{needs}
 use Rattle.c_bursts.proofs.lpmag_snapshot_pitch.Statement.{statement}
 use Rattle.c_bursts.proofs.lpmag_snapshot_pitch.Tie as tie
 
-pitch-requires : tie.Need-pitch-requires
-pitch-requires c κs = search needs
-
-hand-count-requires : tie.Need-hand-count-requires
-hand-count-requires c κs = search needs
-
 returns : tie.Need-returns
 returns c =
     let k = c .before .before .before in
@@ -19,4 +13,5 @@ returns c =
     count-told _ (k .pitch .result) (now (a .low)) (now (a .high)) _ _ _ (k .pitch .ensures) (c .hand-count .ensures)
 
 pub lpmag-snapshot-pitch-spec : {M : Type 1} → statement M
-lpmag-snapshot-pitch-spec = tie.close (tie.spec pitch-requires hand-count-requires returns)
+lpmag-snapshot-pitch-spec =
+    tie.close (tie.spec (λ c κs. search needs) (λ c κs. search needs) returns)

@@ -5,15 +5,6 @@ use borrow.Author.Needs.{needs}
 use Rattle.c_counts.proofs.lpmag_angle.Statement.{statement}
 use Rattle.c_counts.proofs.lpmag_angle.Tie as tie
 
-angle-of-requires : tie.Need-angle-of-requires
-angle-of-requires c κs = search needs
-
-enum-known-angle : tie.Need-enum-known-angle
-enum-known-angle c = search needs
-
-enum-told : tie.Need-enum-told
-enum-told c = search needs
-
 returns : tie.Need-returns
 returns c =
     let k = c .before .before .before in
@@ -28,4 +19,4 @@ returns-2 c =
 
 pub lpmag-angle-spec : {M : Type 1} → statement M
 lpmag-angle-spec =
-    tie.close (tie.spec angle-of-requires enum-known-angle enum-told returns returns-2)
+    tie.close (tie.spec (λ c κs. search needs) (search needs) (search needs) returns returns-2)

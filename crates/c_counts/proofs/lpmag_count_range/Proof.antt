@@ -10,24 +10,6 @@ use borrow.Author.Needs.{needs}
 use Rattle.c_counts.proofs.lpmag_count_range.Statement.{statement}
 use Rattle.c_counts.proofs.lpmag_count_range.Tie as tie
 
-range-of-requires : tie.Need-range-of-requires
-range-of-requires c κs = search needs
-
-give-requires : tie.Need-give-requires
-give-requires c κs = search needs
-
-range-of-requires-2 : tie.Need-range-of-requires-2
-range-of-requires-2 c κs = search needs
-
-give-requires-2 : tie.Need-give-requires-2
-give-requires-2 c κs = search needs
-
-range-of-requires-3 : tie.Need-range-of-requires-3
-range-of-requires-3 c κs = search needs
-
-give-requires-3 : tie.Need-give-requires-3
-give-requires-3 c κs = search needs
-
 returns : tie.Need-returns
 unfolding rangeOf divisor
 returns c =
@@ -71,14 +53,5 @@ returns-4 c =
 pub lpmag-count-range-spec : {M : Type 1} → statement M
 lpmag-count-range-spec =
     tie.close
-    (tie.spec
-    range-of-requires
-    give-requires
-    range-of-requires-2
-    give-requires-2
-    range-of-requires-3
-    give-requires-3
-    returns
-    returns-2
-    returns-3
-    returns-4)
+    (tie.spec (λ c κs. search needs) (λ c κs. search needs) (λ c κs. search needs) (λ c κs. search needs)
+    (λ c κs. search needs) (λ c κs. search needs) returns returns-2 returns-3 returns-4)

@@ -9,18 +9,6 @@ use borrow.Author.Needs.{needs}
 use Rattle.c_counts.proofs.lpmag_count_sum.Statement.{statement}
 use Rattle.c_counts.proofs.lpmag_count_sum.Tie as tie
 
-add-requires : tie.Need-add-requires
-add-requires c κs = search needs
-
-enum-known-sum : tie.Need-enum-known-sum
-enum-known-sum c = search needs
-
-give-requires : tie.Need-give-requires
-give-requires c κs = search needs
-
-enum-told : tie.Need-enum-told
-enum-told c = search needs
-
 returns : tie.Need-returns
 returns c =
     let m = c .before .before .before .before in
@@ -44,4 +32,4 @@ returns-2 c =
 
 pub lpmag-count-sum-spec : {M : Type 1} → statement M
 lpmag-count-sum-spec =
-    tie.close (tie.spec add-requires enum-known-sum give-requires enum-told returns returns-2)
+    tie.close (tie.spec (λ c κs. search needs) (search needs) (λ c κs. search needs) (search needs) returns returns-2)

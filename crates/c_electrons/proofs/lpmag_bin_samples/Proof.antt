@@ -25,9 +25,6 @@ few b = go (ltb b 6) (eqb b 6 || eqb b 9) (ltb b 15)
 returns : tie.Need-returns
 returns c = rw (le-ltb (c .before .args .bin) 15 (omega (arith, c .if1 .taken))) refl
 
-samples-in-requires : tie.Need-samples-in-requires
-samples-in-requires c κs = search needs
-
 cast-result : tie.Need-cast-result
 cast-result c = omega (arith, few (c .before .before .args .bin), c .samples-in .ensures)
 
@@ -35,4 +32,5 @@ returns-2 : tie.Need-returns-2
 returns-2 c = let b = c .before .before .args .bin in rw (lt-ltb b 15 (omega (arith, c .before .if1 .left))) (c .samples-in .ensures)
 
 pub lpmag-bin-samples-spec : {M : Type 1} → statement M
-lpmag-bin-samples-spec = tie.close (tie.spec returns samples-in-requires cast-result returns-2)
+lpmag-bin-samples-spec =
+    tie.close (tie.spec returns (λ c κs. search needs) cast-result returns-2)

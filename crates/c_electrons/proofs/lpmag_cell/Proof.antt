@@ -5,16 +5,11 @@ use borrow.Author.Needs.{needs}
 use Rattle.c_electrons.proofs.lpmag_cell.Statement.{statement}
 use Rattle.c_electrons.proofs.lpmag_cell.Tie as tie
 
-cell-requires : tie.Need-cell-requires
-cell-requires c κs = search needs
-
-hand-byte-requires : tie.Need-hand-byte-requires
-hand-byte-requires c κs = search needs
-
 returns : tie.Need-returns
 returns c =
     let k = c .before .before in
     byte-told _ _ _ _ _ _ (k .cell .result) (k .cell .ensures) (c .hand-byte .ensures)
 
 pub lpmag-cell-spec : {M : Type 1} → statement M
-lpmag-cell-spec = tie.close (tie.spec cell-requires hand-byte-requires returns)
+lpmag-cell-spec =
+    tie.close (tie.spec (λ c κs. search needs) (λ c κs. search needs) returns)

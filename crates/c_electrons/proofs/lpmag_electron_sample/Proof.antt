@@ -7,12 +7,6 @@ use borrow.Author.Needs.{needs}
 use Rattle.c_electrons.proofs.lpmag_electron_sample.Statement.{statement}
 use Rattle.c_electrons.proofs.lpmag_electron_sample.Tie as tie
 
-sample-requires : tie.Need-sample-requires
-sample-requires c κs = search needs
-
-hand-count-requires : tie.Need-hand-count-requires
-hand-count-requires c κs = search needs
-
 returns : tie.Need-returns
 returns c =
     let k = c .before .before .before in
@@ -21,4 +15,5 @@ returns c =
     count-told q (k .sample .result) (now (a .low)) (now (a .high)) _ _ _ (k .sample .ensures) (c .hand-count .ensures)
 
 pub lpmag-electron-sample-spec : {M : Type 1} → statement M
-lpmag-electron-sample-spec = tie.close (tie.spec sample-requires hand-count-requires returns)
+lpmag-electron-sample-spec =
+    tie.close (tie.spec (λ c κs. search needs) (λ c κs. search needs) returns)

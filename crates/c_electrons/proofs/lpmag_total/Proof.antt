@@ -6,12 +6,6 @@ use borrow.Author.Needs.{needs}
 use Rattle.c_electrons.proofs.lpmag_total.Statement.{statement}
 use Rattle.c_electrons.proofs.lpmag_total.Tie as tie
 
-total-requires : tie.Need-total-requires
-total-requires c κs = search needs
-
-hand-count-requires : tie.Need-hand-count-requires
-hand-count-requires c κs = search needs
-
 returns : tie.Need-returns
 returns c =
     let k = c .before .before .before in
@@ -19,4 +13,5 @@ returns c =
     count-told _ (k .total .result) (now (a .low)) (now (a .high)) _ _ _ (k .total .ensures) (c .hand-count .ensures)
 
 pub lpmag-total-spec : {M : Type 1} → statement M
-lpmag-total-spec = tie.close (tie.spec total-requires hand-count-requires returns)
+lpmag-total-spec =
+    tie.close (tie.spec (λ c κs. search needs) (λ c κs. search needs) returns)

@@ -10,15 +10,6 @@ use borrow.Author.Needs.{needs}
 use Rattle.c_mag.proofs.lpmag_field.Statement.{statement}
 use Rattle.c_mag.proofs.lpmag_field.Tie as tie
 
-field-of-requires : tie.Need-field-of-requires
-field-of-requires c κs = search needs
-
-enum-known-answer : tie.Need-enum-known-answer
-enum-known-answer c = search needs
-
-enum-told : tie.Need-enum-told
-enum-told c = search needs
-
 returns : tie.Need-returns
 returns c =
     let f = c .before .before .before in
@@ -35,4 +26,4 @@ returns-2 c =
 
 pub lpmag-field-spec : {M : Type 1} → statement M
 lpmag-field-spec =
-    tie.close (tie.spec field-of-requires enum-known-answer enum-told returns returns-2)
+    tie.close (tie.spec (λ c κs. search needs) (search needs) (search needs) returns returns-2)

@@ -7,15 +7,6 @@ use borrow.Author.Needs.{needs}
 use Rattle.c_mag.proofs.lpmag_range.Statement.{statement}
 use Rattle.c_mag.proofs.lpmag_range.Tie as tie
 
-range-of-requires : tie.Need-range-of-requires
-range-of-requires c κs = search needs
-
-enum-known-range : tie.Need-enum-known-range
-enum-known-range c = search needs
-
-enum-told : tie.Need-enum-told
-enum-told c = search needs
-
 returns : tie.Need-returns
 returns c =
     let r = c .before .before .before in
@@ -30,4 +21,4 @@ returns-2 c =
 
 pub lpmag-range-spec : {M : Type 1} → statement M
 lpmag-range-spec =
-    tie.close (tie.spec range-of-requires enum-known-range enum-told returns returns-2)
+    tie.close (tie.spec (λ c κs. search needs) (search needs) (search needs) returns returns-2)

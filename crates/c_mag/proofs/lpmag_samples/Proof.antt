@@ -6,26 +6,11 @@ use borrow.Author.Needs.{needs}
 use Rattle.c_mag.proofs.lpmag_samples.Statement.{statement}
 use Rattle.c_mag.proofs.lpmag_samples.Tie as tie
 
-lay-requires : tie.Need-lay-requires
-lay-requires c κs = search needs
-
-enum-known-range : tie.Need-enum-known-range
-enum-known-range c = search needs
-
-enum-told : tie.Need-enum-told
-enum-told c = search needs
-
-same-length : tie.Need-same-length
-same-length c = search needs
-
 returns : tie.Need-returns
 returns c =
     let l = c .before .before .before .before in
     let a = l .before .before .before .args in
     samples-told (now (a .mag)) (now (a .room)) (l .lay .result) _ _ (l .lay .ensures) (c .before .range .given .1)
-
-same-length-2 : tie.Need-same-length-2
-same-length-2 c = search needs
 
 returns-2 : tie.Need-returns-2
 returns-2 c =
@@ -36,4 +21,4 @@ returns-2 c =
 pub lpmag-samples-spec : {M : Type 1} → statement M
 lpmag-samples-spec =
     tie.close
-    (tie.spec lay-requires enum-known-range enum-told same-length returns same-length-2 returns-2)
+    (tie.spec (λ c κs. search needs) (search needs) (search needs) (search needs) returns (search needs) returns-2)

@@ -6,15 +6,6 @@ use borrow.Author.Needs.{needs}
 use Rattle.c_records.proofs.lpmag_check.Statement.{statement}
 use Rattle.c_records.proofs.lpmag_check.Tie as tie
 
-check-requires : tie.Need-check-requires
-check-requires c κs = search needs
-
-enum-told : tie.Need-enum-told
-enum-told c = search needs
-
-enum-known-verdict : tie.Need-enum-known-verdict
-enum-known-verdict c = search needs
-
 returns : tie.Need-returns
 returns c =
     let k = c .before .before in
@@ -26,4 +17,5 @@ returns-2 c =
     refused-told (now (k .before .before .args .r)) (k .check .result) (k .check .ensures) _ (c .before .verdict .given .1)
 
 pub lpmag-check-spec : {M : Type 1} → statement M
-lpmag-check-spec = tie.close (tie.spec check-requires enum-told enum-known-verdict returns returns-2)
+lpmag-check-spec =
+    tie.close (tie.spec (λ c κs. search needs) (search needs) (search needs) returns returns-2)

@@ -6,14 +6,9 @@ use borrow.Author.Needs.{needs}
 use Rattle.c_records.proofs.lpmag_kind.Statement.{statement}
 use Rattle.c_records.proofs.lpmag_kind.Tie as tie
 
-kind-of-requires : tie.Need-kind-of-requires
-kind-of-requires c κs = search needs
-
-kind-number-requires : tie.Need-kind-number-requires
-kind-number-requires c κs = search needs
-
 returns : tie.Need-returns
 returns c = c .kind-number .ensures ∙ ap kindNumber (c .before .kind-of .ensures .is)
 
 pub lpmag-kind-spec : {M : Type 1} → statement M
-lpmag-kind-spec = tie.close (tie.spec kind-of-requires kind-number-requires returns)
+lpmag-kind-spec =
+    tie.close (tie.spec (λ c κs. search needs) (λ c κs. search needs) returns)

@@ -17,24 +17,12 @@ returns c =
     let r = now (a .r) in
     wrong-room packetSize (packetBytes r) r (now (a .room)) (c .if1 .taken)
 
-lpmag-check-requires : tie.Need-lpmag-check-requires
-lpmag-check-requires c κs = search needs
-
 returns-2 : tie.Need-returns-2
 returns-2 c =
     let k = c .before in
     let a = k .before .before .before .before .args in
     let r = now (a .r) in
     refused packetSize (packetBytes r) r (now (a .room)) (k .before .if1 .left) (k .lpmag-check .result) (k .lpmag-check .ensures) (c .if2 .taken)
-
-packet-requires : tie.Need-packet-requires
-packet-requires c κs = search needs
-
-copy-requires : tie.Need-copy-requires
-copy-requires c κs = search needs
-
-same-length : tie.Need-same-length
-same-length c = search needs
 
 returns-3 : tie.Need-returns-3
 returns-3 c =
@@ -50,4 +38,7 @@ returns-3 c =
     given-in packetSize (packetBytes r) r (now (a .room)) h (sym z) _ (c .before .before .copy .ensures ∙ rw (eq-eqb _ _ l) e)
 
 pub lpmag-packet-spec : {M : Type 1} → statement M
-lpmag-packet-spec = tie.close (tie.spec returns lpmag-check-requires returns-2 packet-requires copy-requires same-length returns-3)
+lpmag-packet-spec =
+    tie.close
+    (tie.spec returns (λ c κs. search needs) returns-2 (λ c κs. search needs) (λ c κs. search needs) (search needs)
+    returns-3)

@@ -26,9 +26,6 @@ returns-4 c =
     let a = k .before .before .before .before .before .args in
     place-late (a .a) (a .u) (a .d) (omega arith) (omega arith) (k .if3 .left) (omega arith)
 
-sub-result : tie.Need-sub-result
-sub-result c = search needs
-
 returns-5 : tie.Need-returns-5
 returns-5 c =
     let k = c .before .before .before .before in
@@ -36,4 +33,5 @@ returns-5 c =
     place-sum (a .a) (a .u) (a .d) (omega arith) (omega arith) (k .if3 .left) (omega arith)
 
 pub in-place-spec : {M : Type 1} → statement M
-in-place-spec = tie.close (tie.spec returns returns-2 returns-3 returns-4 sub-result returns-5)
+in-place-spec =
+    tie.close (tie.spec returns returns-2 returns-3 returns-4 (search needs) returns-5)

@@ -16,9 +16,6 @@ returns-2 : tie.Need-returns-2
 unfolding joins
 returns-2 c = search (needs, eq-eqb, ne-eqb, le-leb, lt-leb, lt-ltb, le-ltb)
 
-above-requires : tie.Need-above-requires
-above-requires c κs = search needs
-
 sub-g : tie.Need-sub-g
 sub-g c = let k = c .before .before .before .before in omega (arith, k .before .before .pre (k .if1 .left))
 
@@ -28,9 +25,6 @@ sub-g-2 c = let k = c .before .before .before .before in omega (arith, k .before
 sub-g-3 : tie.Need-sub-g-3
 sub-g-3 c = let k = c .before .before .before .before .before in omega (arith, k .before .before .pre (k .if1 .left))
 
-add-if3 : tie.Need-add-if3
-add-if3 c = search needs
-
 returns-3 : tie.Need-returns-3
 unfolding joins
 returns-3 c =
@@ -38,9 +32,6 @@ returns-3 c =
     let a = k .before .before .args in
     let h : gap (a .a) (a .d) < fewest (a .a .«last_type») (a .u) = omega arith in
     search (needs, ne-eqb, lt-leb, le-leb, lt-ltb, h, k .if1 .left)
-
-add-result : tie.Need-add-result
-add-result c = search needs
 
 returns-4 : tie.Need-returns-4
 unfolding joins
@@ -54,14 +45,4 @@ returns-4 c =
 pub joins-at-spec : {M : Type 1} → statement M
 joins-at-spec =
     tie.close
-    (tie.spec
-    returns
-    returns-2
-    above-requires
-    sub-g
-    sub-g-2
-    sub-g-3
-    add-if3
-    returns-3
-    add-result
-    returns-4)
+    (tie.spec returns returns-2 (search needs) sub-g sub-g-2 sub-g-3 (search needs) returns-3 (search needs) returns-4)

@@ -20,16 +20,10 @@ returns-2 c = search (needs, eq-eqb, ne-eqb, le-leb, lt-leb, lt-ltb, le-ltb)
 returns-3 : tie.Need-returns-3
 returns-3 c = type-above (c .before .before .before .before .before .before .args .a) (omega arith) (c .before .before .if2 .left) (omega arith)
 
-cast-result : tie.Need-cast-result
-cast-result c = search needs
-
-shr-result : tie.Need-shr-result
-shr-result c = search needs
-
 returns-4 : tie.Need-returns-4
 unfolding framesAmong highest
 returns-4 c = search (needs, eq-eqb, ne-eqb, le-leb, lt-leb, lt-ltb, le-ltb)
 
 pub frames-among-spec : {M : Type 1} → statement M
 frames-among-spec =
-    tie.close (tie.spec returns returns-2 returns-3 cast-result shr-result returns-4)
+    tie.close (tie.spec returns returns-2 returns-3 (search needs) (search needs) returns-4)

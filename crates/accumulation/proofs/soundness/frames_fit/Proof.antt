@@ -17,12 +17,10 @@ add-after c = omega (arith, ones-le 64 (c .before .before .args .a .held) (c .be
 returns : tie.Need-returns
 returns c = none-fit (c .before .before .before .args .a) (c .if1 .taken)
 
-sub-result : tie.Need-sub-result
-sub-result c = search needs
-
 returns-2 : tie.Need-returns-2
 unfolding framesFit
 returns-2 c = search needs
 
 pub frames-fit-spec : {M : Type 1} → statement M
-frames-fit-spec = tie.close (tie.spec cast-after add-after returns sub-result returns-2)
+frames-fit-spec =
+    tie.close (tie.spec cast-after add-after returns (search needs) returns-2)

@@ -7,20 +7,14 @@ use Rattle.prelude.proofs.Marks.{weight}
 use borrow.Author.Needs.{needs}
 use Rattle.accumulation.proofs.steps.extend.Statement.{statement}
 use Rattle.accumulation.proofs.steps.extend.Tie as tie
-use Rattle.accumulation.proofs.steps.unreported.Reads as unreported-reads
-
-shl-t6 : tie.Need-shl-t6
-shl-t6 c = search needs
 
 add-t7 : tie.Need-add-t7
 add-t7 c = let a = c .before .args in omega (arith, weight 64 (a .u) (omega arith), pow-mono {i = a .u} {j = 63} (omega arith))
-
-unreported-requires : tie.Need-unreported-requires
-unreported-requires c κs = search needs
 
 returns : tie.Need-returns
 unfolding marked
 returns c = let a = c .before .before .args in rw (weight 64 (a .u) (omega arith), c .unreported .ensures)
 
 pub extend-spec : {M : Type 1} → statement M
-extend-spec = tie.close (tie.spec shl-t6 add-t7 unreported-requires returns)
+extend-spec =
+    tie.close (tie.spec (search needs) add-t7 (search needs) returns)

@@ -9,18 +9,6 @@ use Rattle.accumulation.specs.Place.{steppedAt}
 use Rattle.accumulation.proofs.Facts.{place-type, place-frames, place-after}
 use Rattle.accumulation.proofs.steps.step.Statement.{statement}
 use Rattle.accumulation.proofs.steps.step.Tie as tie
-use Rattle.accumulation.proofs.joining.in_place.Reads as in-place-reads
-use Rattle.accumulation.proofs.joining.joins_at.Reads as joins-at-reads
-use Rattle.accumulation.proofs.steps.extend.Reads as extend-reads
-use Rattle.accumulation.proofs.steps.leave.Reads as leave-reads
-use Rattle.accumulation.proofs.steps.pass.Reads as pass-reads
-use Rattle.accumulation.proofs.steps.renew.Reads as renew-reads
-
-in-place-requires : tie.Need-in-place-requires
-in-place-requires c κs = search needs
-
-leave-requires : tie.Need-leave-requires
-leave-requires c κs = search needs
 
 returns : tie.Need-returns
 unfolding steppedAt stepAccumulation
@@ -76,14 +64,5 @@ returns-4 c =
 pub step-spec : {M : Type 1} → statement M
 step-spec =
     tie.close
-    (tie.spec
-    in-place-requires
-    leave-requires
-    returns
-    pass-requires
-    returns-2
-    joins-at-requires
-    extend-requires
-    returns-3
-    renew-requires
-    returns-4)
+    (tie.spec (search needs) (search needs) returns pass-requires returns-2 joins-at-requires extend-requires
+    returns-3 renew-requires returns-4)

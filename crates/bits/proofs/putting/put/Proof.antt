@@ -23,9 +23,6 @@ Inv-loop room₀ at n x rising k₀ room k = (k ≤ n) × (room ≡ paste room�
 abbrev μ-loop : tie.MeasureT-loop
 μ-loop room₀ at n x rising k₀ room k = n - k
 
-has-room-requires : tie.Need-has-room-requires Inv-loop μ-loop
-has-room-requires c κs = search needs
-
 returns : tie.Need-returns Inv-loop μ-loop
 returns c =
     let a = c .before .before .before .args in
@@ -37,9 +34,6 @@ loop-holds : tie.Need-loop-holds Inv-loop μ-loop
 loop-holds c =
     let a = c .before .before .before .args in
     (search needs, paste-zero (now (a .room)) (a .at) (bytesOf (cond (a .rising) least most) (a .n) (a .x)), search needs)
-
-rank-requires : tie.Need-rank-requires Inv-loop μ-loop
-rank-requires c κs = search needs
 
 byte-requires : tie.Need-byte-requires Inv-loop μ-loop
 byte-requires c κs =
@@ -59,12 +53,6 @@ slice-write-room c =
     let a = i .before .before .before .args in
     omega (arith, has-room (now (a .room)) (a .at) (a .n) _ (i .before .has-room .ensures) (i .if1 .left))
 
-add-k : tie.Need-add-k Inv-loop μ-loop
-add-k c = search needs
-
-loop-less : tie.Need-loop-less Inv-loop μ-loop
-loop-less c = search needs
-
 loop-again : tie.Need-loop-again Inv-loop μ-loop
 loop-again c =
     let i = c .before .before .before .before in
@@ -81,9 +69,6 @@ loop-again c =
       search needs,
     )
 
-same-length : tie.Need-same-length Inv-loop μ-loop
-same-length c = search needs
-
 returns-2 : tie.Need-returns-2 Inv-loop μ-loop
 returns-2 c =
     let l = c .before .loop in
@@ -98,18 +83,5 @@ returns-2 c =
 pub put-spec : {M : Type 1} → statement M
 put-spec =
     tie.close
-    (tie.spec
-    Inv-loop
-    μ-loop
-    has-room-requires
-    returns
-    loop-holds
-    rank-requires
-    byte-requires
-    add-room
-    slice-write-room
-    add-k
-    loop-less
-    loop-again
-    same-length
-    returns-2)
+    (tie.spec Inv-loop μ-loop (search needs) returns loop-holds (search needs) byte-requires add-room slice-write-room
+    (search needs) (search needs) loop-again (search needs) returns-2)

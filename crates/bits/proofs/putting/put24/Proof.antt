@@ -11,12 +11,6 @@ use Rattle.bits.proofs.putting.put24.Tie as tie
 returns : tie.Need-returns
 returns c = let a = c .before .before .args in wide (now (a .room)) (a .at) 3 (a .x) (omega arith)
 
-put-requires : tie.Need-put-requires
-put-requires c κs = search needs
-
-same-length : tie.Need-same-length
-same-length c = search needs
-
 returns-2 : tie.Need-returns-2
 returns-2 c =
     let p = c .before .before in
@@ -24,4 +18,5 @@ returns-2 c =
     p .put .ensures ∙ narrow (now (a .room)) (a .at) 3 (a .x) (omega arith)
 
 pub put24-spec : {M : Type 1} → statement M
-put24-spec = tie.close (tie.spec returns put-requires same-length returns-2)
+put24-spec =
+    tie.close (tie.spec returns (search needs) (search needs) returns-2)

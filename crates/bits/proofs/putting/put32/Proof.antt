@@ -7,12 +7,6 @@ use borrow.Author.Needs.{needs}
 use Rattle.bits.proofs.putting.put32.Statement.{statement}
 use Rattle.bits.proofs.putting.put32.Tie as tie
 
-put-requires : tie.Need-put-requires
-put-requires c κs = search needs
-
-same-length : tie.Need-same-length
-same-length c = search needs
-
 returns : tie.Need-returns
 returns c =
     let p = c .before .before in
@@ -20,4 +14,5 @@ returns c =
     p .put .ensures ∙ narrow (now (s .args .room)) (s .args .at) 4 (s .args .x) (s .fits .x .fits)
 
 pub put32-spec : {M : Type 1} → statement M
-put32-spec = tie.close (tie.spec put-requires same-length returns)
+put32-spec =
+    tie.close (tie.spec (search needs) (search needs) returns)

@@ -8,14 +8,9 @@ use Rattle.bits.proofs.putting.rank.Tie as tie
 returns : tie.Need-returns
 returns c = rw (c .if1 .taken)
 
-sub-result : tie.Need-sub-result
-sub-result c = search needs
-
-sub-result-2 : tie.Need-sub-result-2
-sub-result-2 c = search needs
-
 returns-2 : tie.Need-returns-2
 returns-2 c = rw (c .if1 .left) (omega arith)
 
 pub rank-spec : {M : Type 1} → statement M
-rank-spec = tie.close (tie.spec returns sub-result sub-result-2 returns-2)
+rank-spec =
+    tie.close (tie.spec returns (search needs) (search needs) returns-2)

@@ -5,14 +5,8 @@ use borrow.Author.Needs.{needs}
 use Rattle.bits.proofs.signed.from_word.Statement.{statement}
 use Rattle.bits.proofs.signed.from_word.Tie as tie
 
-cast-result : tie.Need-cast-result
-cast-result c = search needs
-
 returns : tie.Need-returns
 returns c = low (c .before .args .w) (c .if1 .taken)
-
-cast-result-2 : tie.Need-cast-result-2
-cast-result-2 c = search needs
 
 sub-result : tie.Need-sub-result
 sub-result c = let s = c .before in taken-fits (s .args .w) (c .if1 .left) (s .fits .w .fits)
@@ -25,4 +19,4 @@ returns-2 c = let s = c .before in high (s .args .w) (c .if1 .left) (s .fits .w 
 
 pub from-word-spec : {M : Type 1} → statement M
 from-word-spec =
-    tie.close (tie.spec cast-result returns cast-result-2 sub-result cast-result-3 returns-2)
+    tie.close (tie.spec (search needs) returns (search needs) sub-result cast-result-3 returns-2)

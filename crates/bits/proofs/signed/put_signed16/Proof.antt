@@ -12,15 +12,6 @@ use borrow.Author.Needs.{needs}
 use Rattle.bits.proofs.signed.put_signed16.Statement.{statement}
 use Rattle.bits.proofs.signed.put_signed16.Tie as tie
 
-to-word-requires : tie.Need-to-word-requires
-to-word-requires c κs = search needs
-
-put16-requires : tie.Need-put16-requires
-put16-requires c κs = search needs
-
-same-length : tie.Need-same-length
-same-length c = search needs
-
 returns : tie.Need-returns
 returns c =
     let p = c .before .before in
@@ -31,4 +22,5 @@ returns c =
     ∙ narrow (now (a .room)) (a .at) (a .z) (s .fits .z .sfits)
 
 pub put-signed16-spec : {M : Type 1} → statement M
-put-signed16-spec = tie.close (tie.spec to-word-requires put16-requires same-length returns)
+put-signed16-spec =
+    tie.close (tie.spec (search needs) (search needs) (search needs) returns)

@@ -8,14 +8,9 @@ use borrow.Author.Needs.{needs}
 use Rattle.bits.proofs.signed.signed16.Statement.{statement}
 use Rattle.bits.proofs.signed.signed16.Tie as tie
 
-word16-requires : tie.Need-word16-requires
-word16-requires c κs = search needs
-
-from-word-requires : tie.Need-from-word-requires
-from-word-requires c κs = search needs
-
 returns : tie.Need-returns
 returns c = toZ-ofZ w16 (c .from-word .result) (search needs) ∙ c .from-word .ensures ∙ ap signedOf (c .before .word16 .ensures)
 
 pub signed16-spec : {M : Type 1} → statement M
-signed16-spec = tie.close (tie.spec word16-requires from-word-requires returns)
+signed16-spec =
+    tie.close (tie.spec (search needs) (search needs) returns)

@@ -7,9 +7,6 @@ use borrow.Author.Needs.{needs}
 use Rattle.bits.proofs.twelve.bytes_of.Statement.{statement}
 use Rattle.bits.proofs.twelve.bytes_of.Tie as tie
 
-inside-requires : tie.Need-inside-requires
-inside-requires c κs = search needs
-
 returns : tie.Need-returns
 returns c =
     let a = c .before .before .before .args in
@@ -22,9 +19,6 @@ mul-at c =
     let a = d .before .before .before .args in
     let i = d .before .inside in
     omega (arith, room (now (a .b)) (a .k) (i .result) (i .ensures) (d .if1 .left))
-
-mul-wide : tie.Need-mul-wide
-mul-wide c = search needs
 
 add-wide : tie.Need-add-wide
 add-wide c =
@@ -40,9 +34,6 @@ shared-slice-read-wide c =
     let i = d .before .inside in
     omega (arith, room (now (a .b)) (a .k) (i .result) (i .ensures) (d .if1 .left))
 
-wide-requires : tie.Need-wide-requires
-wide-requires c κs = search needs
-
 add-wide-2 : tie.Need-add-wide-2
 add-wide-2 c =
     let d = c .before .before in
@@ -57,9 +48,6 @@ shared-slice-read-wide-2 c =
     let i = d .before .inside in
     omega (arith, room (now (a .b)) (a .k) (i .result) (i .ensures) (d .if1 .left))
 
-wide-requires-2 : tie.Need-wide-requires-2
-wide-requires-2 c κs = search needs
-
 returns-2 : tie.Need-returns-2
 returns-2 c =
     let d = c .before .before .before .before in
@@ -73,15 +61,5 @@ returns-2 c =
 pub bytes-of-spec : {M : Type 1} → statement M
 bytes-of-spec =
     tie.close
-    (tie.spec
-    inside-requires
-    returns
-    mul-at
-    mul-wide
-    add-wide
-    shared-slice-read-wide
-    wide-requires
-    add-wide-2
-    shared-slice-read-wide-2
-    wide-requires-2
-    returns-2)
+    (tie.spec (search needs) returns mul-at (search needs) add-wide shared-slice-read-wide (search needs) add-wide-2
+    shared-slice-read-wide-2 (search needs) returns-2)

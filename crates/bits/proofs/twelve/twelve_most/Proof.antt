@@ -7,12 +7,6 @@ use borrow.Author.Needs.{needs}
 use Rattle.bits.proofs.twelve.twelve_most.Statement.{statement}
 use Rattle.bits.proofs.twelve.twelve_most.Tie as tie
 
-bytes-of-requires : tie.Need-bytes-of-requires
-bytes-of-requires c κs = search needs
-
-joined-requires : tie.Need-joined-requires
-joined-requires c κs = search needs
-
 returns : tie.Need-returns
 returns c =
     let a = c .before .before .before .args in
@@ -21,4 +15,5 @@ returns c =
     c .joined .ensures ∙ at-most (now (a .b)) (a .k) (p .result .whole) (p .result .shared) (λ i. known .given i .fits) (p .ensures)
 
 pub twelve-most-spec : {M : Type 1} → statement M
-twelve-most-spec = tie.close (tie.spec bytes-of-requires joined-requires returns)
+twelve-most-spec =
+    tie.close (tie.spec (search needs) (search needs) returns)

@@ -19,9 +19,6 @@ abbrev μ-loop : tie.MeasureT-loop
 returns : tie.Need-returns Inv-loop μ-loop
 returns c = let a = c .before .before .args in outside (now (a .b)) (a .at) (a .n) (omega arith)
 
-sub-if2 : tie.Need-sub-if2 Inv-loop μ-loop
-sub-if2 c = search needs
-
 returns-2 : tie.Need-returns-2 Inv-loop μ-loop
 returns-2 c = let a = c .before .before .before .args in outside (now (a .b)) (a .at) (a .n) (omega arith)
 
@@ -35,30 +32,12 @@ mul-x c =
     let h : first (now (a .b)) (a .at) (l .loop .i) < 72057594037927936 = small (now (a .b)) (a .at) (l .loop .i) 7 (omega arith) in
     omega (arith, l .loop .inv .1)
 
-add-wide : tie.Need-add-wide Inv-loop μ-loop
-add-wide c = search needs
-
-shared-slice-read-wide : tie.Need-shared-slice-read-wide Inv-loop μ-loop
-shared-slice-read-wide c = search needs
-
-wide-requires : tie.Need-wide-requires Inv-loop μ-loop
-wide-requires c κs = search needs
-
-cast-x : tie.Need-cast-x Inv-loop μ-loop
-cast-x c = search needs
-
 add-x : tie.Need-add-x Inv-loop μ-loop
 add-x c =
     let l = c .before .before .before in
     let a = l .before .before .before .before .args in
     let h : first (now (a .b)) (a .at) (l .loop .i) < 72057594037927936 = small (now (a .b)) (a .at) (l .loop .i) 7 (omega arith) in
     omega (arith, l .loop .inv .1)
-
-add-i : tie.Need-add-i Inv-loop μ-loop
-add-i c = search needs
-
-loop-less : tie.Need-loop-less Inv-loop μ-loop
-loop-less c = search needs
 
 loop-again : tie.Need-loop-again Inv-loop μ-loop
 loop-again c =
@@ -82,20 +61,5 @@ returns-3 c =
 pub word-spec : {M : Type 1} → statement M
 word-spec =
     tie.close
-    (tie.spec
-    Inv-loop
-    μ-loop
-    returns
-    sub-if2
-    returns-2
-    loop-holds
-    mul-x
-    add-wide
-    shared-slice-read-wide
-    wide-requires
-    cast-x
-    add-x
-    add-i
-    loop-less
-    loop-again
-    returns-3)
+    (tie.spec Inv-loop μ-loop returns (search needs) returns-2 loop-holds mul-x (search needs) (search needs)
+    (search needs) (search needs) add-x (search needs) (search needs) loop-again returns-3)

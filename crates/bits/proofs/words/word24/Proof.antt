@@ -7,14 +7,9 @@ use borrow.Author.Needs.{needs}
 use Rattle.bits.proofs.words.word24.Statement.{statement}
 use Rattle.bits.proofs.words.word24.Tie as tie
 
-word-requires : tie.Need-word-requires
-word-requires c κs = search needs
-
 cast-result : tie.Need-cast-result
 cast-result c = let a = c .before .before .args in record { fits = omega (arith, c .word .ensures, small-word (now (a .b)) (a .at) 3) }
 
-returns : tie.Need-returns
-returns c = search needs
-
 pub word24-spec : {M : Type 1} → statement M
-word24-spec = tie.close (tie.spec word-requires cast-result returns)
+word24-spec =
+    tie.close (tie.spec (search needs) cast-result (search needs))

@@ -18,32 +18,13 @@ Inv-loop buffer₀ i₀ buffer i = (i ≤ length buffer₀) × (buffer ≡ repli
 abbrev μ-loop : tie.MeasureT-loop
 μ-loop buffer₀ i₀ buffer i = length buffer₀ - i
 
-loop-holds : tie.Need-loop-holds Inv-loop μ-loop
-loop-holds c = search needs
-
-mul-buffer : tie.Need-mul-buffer Inv-loop μ-loop
-mul-buffer c = search needs
-
-slice-set-of-buffer : tie.Need-slice-set-of-buffer Inv-loop μ-loop
-slice-set-of-buffer c = search needs
-
-add-i : tie.Need-add-i Inv-loop μ-loop
-add-i c = search needs
-
-loop-less : tie.Need-loop-less Inv-loop μ-loop
-loop-less c = search needs
-
 loop-again : tie.Need-loop-again Inv-loop μ-loop
 loop-again c =
-    let l = c .before in
-    let a₀ = now (l .before .args .buffer) in (
+    let l = c .before in (
       search needs,
-      ap (λ (a : List ℤ). set a (l .loop .i) (pos 0)) (l .loop .inv .1) ∙ fill-more (pos 0) (l .loop .i) a₀ (omega arith),
+      ap (λ (a : List ℤ). set a (l .loop .i) (pos 0)) (l .loop .inv .1) ∙ fill-more (pos 0) (l .loop .i) (now (l .before .args .buffer)) (omega arith),
       search needs,
     )
-
-same-length : tie.Need-same-length Inv-loop μ-loop
-same-length c = search needs
 
 returns : tie.Need-returns Inv-loop μ-loop
 returns c =
@@ -53,14 +34,5 @@ returns c =
 pub clear-numbers-spec : {M : Type 1} → statement M
 clear-numbers-spec =
     tie.close
-    (tie.spec
-    Inv-loop
-    μ-loop
-    loop-holds
-    mul-buffer
-    slice-set-of-buffer
-    add-i
-    loop-less
-    loop-again
-    same-length
-    returns)
+    (tie.spec Inv-loop μ-loop (search needs) (search needs) (search needs) (search needs) (search needs) loop-again
+    (search needs) returns)

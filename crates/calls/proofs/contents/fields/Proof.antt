@@ -9,18 +9,6 @@ use borrow.Author.Needs.{needs}
 use Rattle.calls.proofs.contents.fields.Statement.{statement}
 use Rattle.calls.proofs.contents.fields.Tie as tie
 
-fields-requires : tie.Need-fields-requires
-fields-requires c κs = search needs
-
-enum-known-contents : tie.Need-enum-known-contents
-enum-known-contents c = search needs
-
-fields-out-requires : tie.Need-fields-out-requires
-fields-out-requires c κs = search needs
-
-enum-known-contents-2 : tie.Need-enum-known-contents-2
-enum-known-contents-2 c = search needs
-
 returns : tie.Need-returns
 returns c =
     let k = c .before .before .before .before in
@@ -36,4 +24,5 @@ returns-2 c =
     record { number = t .0; written = rw (ne-eqb _ 0 (λ z. t .1 (t .0 ∙ z))) refl }
 
 pub fields-spec : {M : Type 1} → statement M
-fields-spec = tie.close (tie.spec fields-requires enum-known-contents fields-out-requires enum-known-contents-2 returns returns-2)
+fields-spec =
+    tie.close (tie.spec (λ c κs. search needs) (search needs) (λ c κs. search needs) (search needs) returns returns-2)

@@ -5,14 +5,9 @@ use borrow.Author.Needs.{needs}
 use Rattle.calls.proofs.feeding.hand_over_fed.Statement.{statement}
 use Rattle.calls.proofs.feeding.hand_over_fed.Tie as tie
 
-state-out-requires : tie.Need-state-out-requires
-state-out-requires c κs = search needs
-
-fed-out-requires : tie.Need-fed-out-requires
-fed-out-requires c κs = search needs
-
 returns : tie.Need-returns
 returns c = λ i. backFed 0 (c .before .state-out .ensures i) (c .fed-out .ensures i)
 
 pub hand-over-fed-spec : {M : Type 1} → statement M
-hand-over-fed-spec = tie.close (tie.spec state-out-requires fed-out-requires returns)
+hand-over-fed-spec =
+    tie.close (tie.spec (λ c κs. search needs) (λ c κs. search needs) returns)

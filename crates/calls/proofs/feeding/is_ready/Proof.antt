@@ -8,9 +8,6 @@ use borrow.Author.Needs.{needs}
 use Rattle.calls.proofs.feeding.is_ready.Statement.{statement}
 use Rattle.calls.proofs.feeding.is_ready.Tie as tie
 
-is-state-requires : tie.Need-is-state-requires
-is-state-requires c κs = search needs
-
 returns : tie.Need-returns
 unfolding readyBy
 returns c = let k = c .before in rw (fails (k .is-state .ensures) (c .if1 .taken)) refl
@@ -22,12 +19,6 @@ returns-2 c =
     let a = k .before .args in
     rw (held (k .is-state .ensures) (c .before .if1 .left), not-true (a .sized) (c .if2 .taken)) refl
 
-state-in-requires : tie.Need-state-in-requires
-state-in-requires c κs = search needs
-
-is-sound-requires : tie.Need-is-sound-requires
-is-sound-requires c κs = search needs
-
 returns-3 : tie.Need-returns-3
 unfolding readyBy
 returns-3 c =
@@ -38,4 +29,6 @@ returns-3 c =
     (rw (c .before .state-in .ensures) at (c .is-sound .ensures))
 
 pub is-ready-spec : {M : Type 1} → statement M
-is-ready-spec = tie.close (tie.spec is-state-requires returns returns-2 state-in-requires is-sound-requires returns-3)
+is-ready-spec =
+    tie.close
+    (tie.spec (λ c κs. search needs) returns returns-2 (λ c κs. search needs) (λ c κs. search needs) returns-3)

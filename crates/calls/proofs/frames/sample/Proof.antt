@@ -10,21 +10,6 @@ use borrow.Author.Needs.{needs}
 use Rattle.calls.proofs.frames.sample.Statement.{statement}
 use Rattle.calls.proofs.frames.sample.Tie as tie
 
-major-in-requires : tie.Need-major-in-requires
-major-in-requires c κs = search needs
-
-sample-of-requires : tie.Need-sample-of-requires
-sample-of-requires c κs = search needs
-
-enum-known-answer : tie.Need-enum-known-answer
-enum-known-answer c = search needs
-
-enum-told : tie.Need-enum-told
-enum-told c = search needs
-
-enum-told-2 : tie.Need-enum-told-2
-enum-told-2 c = search needs
-
 returns : tie.Need-returns
 returns c =
     let z = c .before .answer .given .0 .0 in
@@ -55,5 +40,6 @@ returns-3 c =
 
 pub sample-spec : {M : Type 1} → statement M
 sample-spec =
-    tie.close (tie.spec major-in-requires sample-of-requires enum-known-answer enum-told enum-told-2 returns returns-2
-    returns-3)
+    tie.close
+    (tie.spec (λ c κs. search needs) (λ c κs. search needs) (search needs) (search needs) (search needs) returns
+    returns-2 returns-3)

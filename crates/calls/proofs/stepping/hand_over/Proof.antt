@@ -9,21 +9,6 @@ use borrow.Author.Needs.{needs}
 use Rattle.calls.proofs.stepping.hand_over.Statement.{statement}
 use Rattle.calls.proofs.stepping.hand_over.Tie as tie
 
-enum-known-answer : tie.Need-enum-known-answer
-enum-known-answer c = search needs
-
-enum-known-answer-2 : tie.Need-enum-known-answer-2
-enum-known-answer-2 c = search needs
-
-not-zero-requires : tie.Need-not-zero-requires
-not-zero-requires c κs = search needs
-
-state-out-requires : tie.Need-state-out-requires
-state-out-requires c κs = search needs
-
-report-out-requires : tie.Need-report-out-requires
-report-out-requires c κs = search needs
-
 returns : tie.Need-returns
 unfolding handedAs
 returns c =
@@ -42,5 +27,6 @@ returns-2 c =
 
 pub hand-over-spec : {M : Type 1} → statement M
 hand-over-spec =
-    tie.close (tie.spec enum-known-answer not-zero-requires enum-known-answer-2 state-out-requires report-out-requires returns
-    returns-2)
+    tie.close
+    (tie.spec (search needs) (λ c κs. search needs) (search needs) (λ c κs. search needs) (λ c κs. search needs)
+    returns returns-2)

@@ -7,18 +7,6 @@ use borrow.Author.Needs.{needs}
 use Rattle.calls.proofs.stepping.hand_over_closed.Statement.{statement}
 use Rattle.calls.proofs.stepping.hand_over_closed.Tie as tie
 
-enum-known-ending : tie.Need-enum-known-ending
-enum-known-ending c = search needs
-
-enum-told : tie.Need-enum-told
-enum-told c = search needs
-
-state-out-requires : tie.Need-state-out-requires
-state-out-requires c κs = search needs
-
-closed-out-requires : tie.Need-closed-out-requires
-closed-out-requires c κs = search needs
-
 returns : tie.Need-returns
 unfolding handedClosed
 returns c =
@@ -34,4 +22,5 @@ returns-2 c =
     ∙ sym (ap (λ (z : Ending). handedEnd z (a .x) (a .state) (a .closed)) (k .enum-told .given .1))
 
 pub hand-over-closed-spec : {M : Type 1} → statement M
-hand-over-closed-spec = tie.close (tie.spec enum-known-ending enum-told state-out-requires closed-out-requires returns returns-2)
+hand-over-closed-spec =
+    tie.close (tie.spec (search needs) (search needs) (λ c κs. search needs) (λ c κs. search needs) returns returns-2)

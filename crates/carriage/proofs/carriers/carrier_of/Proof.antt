@@ -8,23 +8,8 @@ use borrow.Author.Needs.{needs}
 use Rattle.carriage.proofs.carriers.carrier_of.Statement.{statement}
 use Rattle.carriage.proofs.carriers.carrier_of.Tie as tie
 
-rest-carrier-requires : tie.Need-rest-carrier-requires
-rest-carrier-requires c κs = search needs
-
 returns : tie.Need-returns
 returns c = c .rest-carrier .ensures ∙ ap carrier (header-rest (c .before .before .args .p) (c .before .if1 .taken))
-
-sample-carrier-requires : tie.Need-sample-carrier-requires
-sample-carrier-requires c κs = search needs
-
-returns-2 : tie.Need-returns-2
-returns-2 c = search needs
-
-sub-rest-carrier : tie.Need-sub-rest-carrier
-sub-rest-carrier c = search needs
-
-rest-carrier-requires-2 : tie.Need-rest-carrier-requires-2
-rest-carrier-requires-2 c κs = search needs
 
 returns-3 : tie.Need-returns-3
 returns-3 c = c .rest-carrier2 .ensures ∙ ap carrier (three-rest (c .before .before .before .before .args .p) (omega arith))
@@ -35,12 +20,4 @@ returns-4 c = sym (carrier-none (c .before .before .before .args .p) (c .if3 .le
 pub carrier-of-spec : {M : Type 1} → statement M
 carrier-of-spec =
     tie.close
-    (tie.spec
-    rest-carrier-requires
-    returns
-    sample-carrier-requires
-    returns-2
-    sub-rest-carrier
-    rest-carrier-requires-2
-    returns-3
-    returns-4)
+    (tie.spec (search needs) returns (search needs) (search needs) (search needs) (search needs) returns-3 returns-4)

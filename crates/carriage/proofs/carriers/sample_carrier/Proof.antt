@@ -9,29 +9,14 @@ use borrow.Author.Needs.{needs}
 use Rattle.carriage.proofs.carriers.sample_carrier.Statement.{statement}
 use Rattle.carriage.proofs.carriers.sample_carrier.Tie as tie
 
-sub-j : tie.Need-sub-j
-sub-j c = search needs
-
-mul-result : tie.Need-mul-result
-mul-result c = search needs
-
 returns : tie.Need-returns
 returns c = let k = c .before in sample-10 ((k .args .p - 4) / 16) (omega arith) ∙ sample-is (k .args .p) (k .pre .0) (k .pre .1)
-
-mul-result-2 : tie.Need-mul-result-2
-mul-result-2 c = search needs
-
-add-result : tie.Need-add-result
-add-result c = search needs
 
 returns-2 : tie.Need-returns-2
 returns-2 c =
     let k = c .before .before in
     let p = k .args .p in
     sample-12 ((p - 4) / 16) (omega arith) (omega arith) ∙ sample-is p (k .pre .0) (k .pre .1)
-
-half-spin-carrier-requires : tie.Need-half-spin-carrier-requires
-half-spin-carrier-requires c κs = search needs
 
 returns-3 : tie.Need-returns-3
 returns-3 c =
@@ -41,26 +26,11 @@ returns-3 c =
     ∙ sample-44 ((p - 4) / 16) (omega arith) (omega arith) (omega arith)
     ∙ sample-is p (k .pre .0) (k .pre .1)
 
-mul-result-3 : tie.Need-mul-result-3
-mul-result-3 c = search needs
-
-mul-result-4 : tie.Need-mul-result-4
-mul-result-4 c = search needs
-
-add-result-2 : tie.Need-add-result-2
-add-result-2 c = search needs
-
-add-result-3 : tie.Need-add-result-3
-add-result-3 c = search needs
-
 returns-4 : tie.Need-returns-4
 returns-4 c =
     let k = c .before .before .before .before in
     let p = k .args .p in
     sample-52 ((p - 4) / 16) (omega arith) (omega arith) (omega arith) (omega arith) ∙ sample-is p (k .pre .0) (k .pre .1)
-
-half-spin-carrier-requires-2 : tie.Need-half-spin-carrier-requires-2
-half-spin-carrier-requires-2 c κs = search needs
 
 returns-5 : tie.Need-returns-5
 returns-5 c =
@@ -70,36 +40,12 @@ returns-5 c =
     ∙ sample-84 ((p - 4) / 16) (omega arith) (omega arith) (omega arith) (omega arith) (omega arith)
     ∙ sample-is p (k .pre .0) (k .pre .1)
 
-mul-result-5 : tie.Need-mul-result-5
-mul-result-5 c = search needs
-
-mul-result-6 : tie.Need-mul-result-6
-mul-result-6 c = search needs
-
-add-result-4 : tie.Need-add-result-4
-add-result-4 c = search needs
-
-add-result-5 : tie.Need-add-result-5
-add-result-5 c = search needs
-
 returns-6 : tie.Need-returns-6
 returns-6 c =
     let k = c .before .before .before .before .before .before in
     let p = k .args .p in
     sample-88 ((p - 4) / 16) (omega arith) (omega arith) (omega arith) (omega arith) (omega arith) (omega arith)
     ∙ sample-is p (k .pre .0) (k .pre .1)
-
-mul-result-7 : tie.Need-mul-result-7
-mul-result-7 c = search needs
-
-mul-result-8 : tie.Need-mul-result-8
-mul-result-8 c = search needs
-
-add-result-6 : tie.Need-add-result-6
-add-result-6 c = search needs
-
-add-result-7 : tie.Need-add-result-7
-add-result-7 c = search needs
 
 returns-7 : tie.Need-returns-7
 returns-7 c =
@@ -111,29 +57,7 @@ returns-7 c =
 pub sample-carrier-spec : {M : Type 1} → statement M
 sample-carrier-spec =
     tie.close
-    (tie.spec
-    sub-j
-    mul-result
-    returns
-    mul-result-2
-    add-result
-    returns-2
-    half-spin-carrier-requires
-    returns-3
-    mul-result-3
-    mul-result-4
-    add-result-2
-    add-result-3
-    returns-4
-    half-spin-carrier-requires-2
-    returns-5
-    mul-result-5
-    mul-result-6
-    add-result-4
-    add-result-5
-    returns-6
-    mul-result-7
-    mul-result-8
-    add-result-6
-    add-result-7
+    (tie.spec (search needs) (search needs) returns (search needs) (search needs) returns-2 (search needs) returns-3
+    (search needs) (search needs) (search needs) (search needs) returns-4 (search needs) returns-5 (search needs)
+    (search needs) (search needs) (search needs) returns-6 (search needs) (search needs) (search needs) (search needs)
     returns-7)

@@ -23,18 +23,12 @@ returns-3 c =
     let a = c .before .before .before .before .args in
     no-place cellsSize types cells (now (a .cells)) (a .held) (a .p) _ _ (c .before .before .if1 .left) (omega arith) (omega arith)
 
-holds-cell-requires : tie.Need-holds-cell-requires
-holds-cell-requires c κs = search needs
-
 returns-4 : tie.Need-returns-4
 returns-4 c =
     let k = c .before in
     let a = k .before .before .before .before .before .args in
     not-held cellsSize types cells (now (a .cells)) (a .held) (a .p) _ _ (omega arith) (omega arith) (omega arith)
     (fails (k .holds-cell .ensures) (c .if4 .taken))
-
-shared-slice-read-t8 : tie.Need-shared-slice-read-t8
-shared-slice-read-t8 c = search needs
 
 returns-5 : tie.Need-returns-5
 returns-5 c =
@@ -45,5 +39,4 @@ returns-5 c =
 
 pub cell-spec : {M : Type 1} → statement M
 cell-spec =
-    tie.close
-    (tie.spec returns returns-2 returns-3 holds-cell-requires returns-4 shared-slice-read-t8 returns-5)
+    tie.close (tie.spec returns returns-2 returns-3 (search needs) returns-4 (search needs) returns-5)

@@ -6,9 +6,6 @@ use borrow.Author.Needs.{needs}
 use Rattle.cells.proofs.raw.holds_cell.Statement.{statement}
 use Rattle.cells.proofs.raw.holds_cell.Tie as tie
 
-carrier-of-requires : tie.Need-carrier-of-requires
-carrier-of-requires c κs = search needs
-
 shr-result : tie.Need-shr-result
 shr-result c = omega (arith, c .carrier-of .ensures, carrier-small (c .before .args .p))
 
@@ -16,4 +13,5 @@ returns : tie.Need-returns
 returns c = rw (c .carrier-of .ensures)
 
 pub holds-cell-spec : {M : Type 1} → statement M
-holds-cell-spec = tie.close (tie.spec carrier-of-requires shr-result returns)
+holds-cell-spec =
+    tie.close (tie.spec (search needs) shr-result returns)

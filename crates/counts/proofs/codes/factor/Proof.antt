@@ -6,15 +6,6 @@ use borrow.Author.Needs.{needs}
 use Rattle.counts.proofs.codes.factor.Statement.{statement}
 use Rattle.counts.proofs.codes.factor.Tie as tie
 
-enum-told : tie.Need-enum-told
-enum-told c = search needs
-
-enum-told-2 : tie.Need-enum-told-2
-enum-told-2 c = search needs
-
-enum-told-3 : tie.Need-enum-told-3
-enum-told-3 c = search needs
-
 returns : tie.Need-returns
 unfolding divisor
 returns c = ap divisor (sym (c .enum-told .given .1))
@@ -28,4 +19,5 @@ unfolding divisor
 returns-3 c = ap divisor (sym (c .enum-told3 .given .1))
 
 pub factor-spec : {M : Type 1} → statement M
-factor-spec = tie.close (tie.spec enum-told enum-told-2 enum-told-3 returns returns-2 returns-3)
+factor-spec =
+    tie.close (tie.spec (search needs) (search needs) (search needs) returns returns-2 returns-3)

@@ -6,12 +6,6 @@ use borrow.Author.Needs.{needs}
 use Rattle.counts.proofs.codes.range_of.Statement.{statement}
 use Rattle.counts.proofs.codes.range_of.Tie as tie
 
-undivided-requires : tie.Need-undivided-requires
-undivided-requires c κs = search needs
-
-factor-requires : tie.Need-factor-requires
-factor-requires c κs = search needs
-
 mul-t5 : tie.Need-mul-t5
 mul-t5 c =
     let k = c .before .before in
@@ -54,4 +48,4 @@ returns c =
 
 pub range-of-spec : {M : Type 1} → statement M
 range-of-spec =
-    tie.close (tie.spec undivided-requires factor-requires mul-t5 mul-t6 sub-t7 add-t8 returns)
+    tie.close (tie.spec (search needs) (search needs) mul-t5 mul-t6 sub-t7 add-t8 returns)

@@ -6,12 +6,6 @@ use borrow.Author.Needs.{needs}
 use Rattle.electrons.proofs.questions.header_count.Statement.{statement}
 use Rattle.electrons.proofs.questions.header_count.Tie as tie
 
-cell-requires : tie.Need-cell-requires
-cell-requires c κs = search needs
-
-meaning-of-requires : tie.Need-meaning-of-requires
-meaning-of-requires c κs = search needs
-
 returns : tie.Need-returns
 returns c =
     let k = c .before .before .before in
@@ -21,4 +15,5 @@ returns c =
     header-told (now (a .cells)) (a .held) (a .p) (w .result) (m .result) (k .pre) (w .ensures .is) (m .ensures)
 
 pub header-count-spec : {M : Type 1} → statement M
-header-count-spec = tie.close (tie.spec cell-requires meaning-of-requires returns)
+header-count-spec =
+    tie.close (tie.spec (λ c κs. search needs) (λ c κs. search needs) returns)

@@ -6,18 +6,6 @@ use borrow.Author.Needs.{needs}
 use Rattle.electrons.proofs.questions.sample.Statement.{statement}
 use Rattle.electrons.proofs.questions.sample.Tie as tie
 
-sample-place-requires : tie.Need-sample-place-requires
-sample-place-requires c κs = search needs
-
-cell-requires : tie.Need-cell-requires
-cell-requires c κs = search needs
-
-scale-of-requires : tie.Need-scale-of-requires
-scale-of-requires c κs = search needs
-
-meaning-of-requires : tie.Need-meaning-of-requires
-meaning-of-requires c κs = search needs
-
 returns : tie.Need-returns
 returns c =
     let a = c .before .before .before .before .before .args in
@@ -31,4 +19,4 @@ returns c =
 pub sample-spec : {M : Type 1} → statement M
 sample-spec =
     tie.close
-    (tie.spec sample-place-requires cell-requires scale-of-requires meaning-of-requires returns)
+    (tie.spec (λ c κs. search needs) (λ c κs. search needs) (λ c κs. search needs) (λ c κs. search needs) returns)

@@ -6,15 +6,6 @@ use borrow.Author.Needs.{needs}
 use Rattle.electrons.proofs.questions.three_d.Statement.{statement}
 use Rattle.electrons.proofs.questions.three_d.Tie as tie
 
-three-place-requires : tie.Need-three-place-requires
-three-place-requires c κs = search needs
-
-cell-requires : tie.Need-cell-requires
-cell-requires c κs = search needs
-
-meaning-of-requires : tie.Need-meaning-of-requires
-meaning-of-requires c κs = search needs
-
 returns : tie.Need-returns
 returns c =
     let a = c .before .before .before .before .args in
@@ -24,4 +15,5 @@ returns c =
     three-told (now (a .cells)) (a .held) (a .step) (a .angle) (p .result) (w .result) (m .result) (p .ensures) (w .ensures .is) (m .ensures)
 
 pub three-d-spec : {M : Type 1} → statement M
-three-d-spec = tie.close (tie.spec three-place-requires cell-requires meaning-of-requires returns)
+three-d-spec =
+    tie.close (tie.spec (λ c κs. search needs) (λ c κs. search needs) (λ c κs. search needs) returns)

@@ -14,19 +14,10 @@ use borrow.Author.Needs.{needs}
 use Rattle.electrons.proofs.scale.scale_of.Statement.{statement}
 use Rattle.electrons.proofs.scale.scale_of.Tie as tie
 
-can-scale-requires : tie.Need-can-scale-requires
-can-scale-requires c κs = search needs
-
 returns : tie.Need-returns
 returns c =
     let a = c .before .before .before .args in
     never-scaled (now (a .cells)) (a .held) (a .bin) (sym (c .before .can-scale .ensures) ∙ not-true _ (c .if1 .taken))
-
-cell-requires : tie.Need-cell-requires
-cell-requires c κs = search needs
-
-enum-known-state : tie.Need-enum-known-state
-enum-known-state c = search needs
 
 cast-if2 : tie.Need-cast-if2
 cast-if2 c =
@@ -49,12 +40,6 @@ returns-2 c =
     ap (λ (d : Bool). Known (cond d By8 By1)) (sym (eq-eqb _ _ (c .if2 .taken)))
     ∙ ap (λ (r : Raw). byState r (a .bin)) (sym (c .before .before .state .given .1) ∙ k .cell .ensures .is)
     ∙ by-state (now (a .cells)) (a .held) (a .bin) (sym (k .before .before .can-scale .ensures) ∙ not-false _ (k .before .if1 .left))
-
-enum-told : tie.Need-enum-told
-enum-told c = search needs
-
-enum-told-2 : tie.Need-enum-told-2
-enum-told-2 c = search needs
 
 returns-3 : tie.Need-returns-3
 returns-3 c =
@@ -81,16 +66,5 @@ returns-5 c =
 pub scale-of-spec : {M : Type 1} → statement M
 scale-of-spec =
     tie.close
-    (tie.spec
-    can-scale-requires
-    returns
-    cell-requires
-    enum-known-state
-    cast-if2
-    shr-if2
-    returns-2
-    enum-told
-    enum-told-2
-    returns-3
-    returns-4
-    returns-5)
+    (tie.spec (λ c κs. search needs) returns (λ c κs. search needs) (search needs) cast-if2 shr-if2 returns-2
+    (search needs) (search needs) returns-3 returns-4 returns-5)

@@ -7,44 +7,11 @@ use borrow.Author.Needs.{needs}
 use Rattle.feed.proofs.cutting.cut.Statement.{statement}
 use Rattle.feed.proofs.cutting.cut.Tie as tie
 
-sub-result : tie.Need-sub-result
-sub-result c = search needs
-
-part-result-start : tie.Need-part-result-start
-part-result-start c = search needs
-
-part-result-end : tie.Need-part-result-end
-part-result-end c = search needs
-
 returns : tie.Need-returns
 returns c = let a = c .before .before .args in cut-past (now (a .bytes)) (a .at) (a .bytes .ptr) (c .before .if1 .taken)
 
-sub-if2 : tie.Need-sub-if2
-sub-if2 c = search needs
-
-sub-result-2 : tie.Need-sub-result-2
-sub-result-2 c = search needs
-
-part-result-start-2 : tie.Need-part-result-start-2
-part-result-start-2 c = search needs
-
-part-result-end-2 : tie.Need-part-result-end-2
-part-result-end-2 c = search needs
-
 returns-2 : tie.Need-returns-2
 returns-2 c = let a = c .before .before .before .args in cut-short (now (a .bytes)) (a .at) (a .bytes .ptr) (omega arith) (c .before .if2 .taken)
-
-add-result : tie.Need-add-result
-add-result c = search needs
-
-sub-result-3 : tie.Need-sub-result-3
-sub-result-3 c = search needs
-
-part-result-start-3 : tie.Need-part-result-start-3
-part-result-start-3 c = search needs
-
-part-result-end-3 : tie.Need-part-result-end-3
-part-result-end-3 c = search needs
 
 returns-3 : tie.Need-returns-3
 returns-3 c = let a = c .before .before .before .args in cut-whole (now (a .bytes)) (a .at) (a .bytes .ptr) (omega arith)
@@ -52,18 +19,5 @@ returns-3 c = let a = c .before .before .before .args in cut-whole (now (a .byte
 pub cut-spec : {M : Type 1} → statement M
 cut-spec =
     tie.close
-    (tie.spec
-    sub-result
-    part-result-start
-    part-result-end
-    returns
-    sub-if2
-    sub-result-2
-    part-result-start-2
-    part-result-end-2
-    returns-2
-    add-result
-    sub-result-3
-    part-result-start-3
-    part-result-end-3
-    returns-3)
+    (tie.spec (search needs) (search needs) (search needs) returns (search needs) (search needs) (search needs)
+    (search needs) returns-2 (search needs) (search needs) (search needs) (search needs) returns-3)

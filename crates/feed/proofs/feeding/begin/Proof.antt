@@ -4,11 +4,9 @@ use borrow.Author.Needs.{needs}
 use Rattle.feed.proofs.feeding.begin.Statement.{statement}
 use Rattle.feed.proofs.feeding.begin.Tie as tie
 
-nothing-closed-requires : tie.Need-nothing-closed-requires
-nothing-closed-requires c κs = search needs
-
 returns : tie.Need-returns
 returns c = rw (c .nothing-closed .ensures)
 
 pub begin-spec : {M : Type 1} → statement M
-begin-spec = tie.close (tie.spec nothing-closed-requires returns)
+begin-spec =
+    tie.close (tie.spec (λ c κs. search needs) returns)

@@ -5,12 +5,6 @@ use borrow.Author.Needs.{needs}
 use Rattle.feed.proofs.feeding.rule_of.Statement.{statement}
 use Rattle.feed.proofs.feeding.rule_of.Tie as tie
 
-enum-known-answer : tie.Need-enum-known-answer
-enum-known-answer c = search needs
-
-enum-told : tie.Need-enum-told
-enum-told c = search needs
-
 returns : tie.Need-returns
 unfolding answerNumber
 returns c = rw (c .before .answer .given .1)
@@ -20,4 +14,5 @@ unfolding answerNumber
 returns-2 c = rw (c .enum-told .given .1)
 
 pub rule-of-spec : {M : Type 1} → statement M
-rule-of-spec = tie.close (tie.spec enum-known-answer enum-told returns returns-2)
+rule-of-spec =
+    tie.close (tie.spec (search needs) (search needs) returns returns-2)

@@ -12,29 +12,11 @@ use borrow.Author.Needs.{needs}
 use Rattle.listing.proofs.decimal.put_decimal.Statement.{statement}
 use Rattle.listing.proofs.decimal.put_decimal.Tie as tie
 
-slice-aggregate-spell : tie.Need-slice-aggregate-spell
-slice-aggregate-spell c = search needs
-
-spell-requires : tie.Need-spell-requires
-spell-requires c κs = search needs
-
-sub-put : tie.Need-sub-put
-sub-put c = search needs
-
-part-put-start : tie.Need-part-put-start
-part-put-start c = search needs
-
-part-put-end : tie.Need-part-put-end
-part-put-end c = search needs
-
 put-requires : tie.Need-put-requires
 put-requires c κs =
     let p = c .before .before .before .before .spell in
     let n = c .before .before .before .before .before .before .before .args .n in
     omega (arith, ap length (spelled-part n _ (p .result) (p .ensures)), length-decimal n)
-
-same-length : tie.Need-same-length
-same-length c = search needs
 
 returns : tie.Need-returns
 returns c =
@@ -48,12 +30,5 @@ returns c =
 pub put-decimal-spec : {M : Type 1} → statement M
 put-decimal-spec =
     tie.close
-    (tie.spec
-    slice-aggregate-spell
-    spell-requires
-    sub-put
-    part-put-start
-    part-put-end
-    put-requires
-    same-length
-    returns)
+    (tie.spec (search needs) (λ c κs. search needs) (search needs) (search needs) (search needs) put-requires
+    (search needs) returns)

@@ -17,23 +17,8 @@ Inv-loop n places₀ i₀ rest₀ places i rest = Found n places i rest
 abbrev μ-loop : tie.MeasureT-loop
 μ-loop n places₀ i₀ rest₀ places i rest = i
 
-sub-i : tie.Need-sub-i Inv-loop μ-loop
-sub-i c = search needs
-
 loop-holds : tie.Need-loop-holds Inv-loop μ-loop
 loop-holds c = found-none (c .args .n) (now (c .args .places)) (c .pre)
-
-cast-places : tie.Need-cast-places Inv-loop μ-loop
-cast-places c = search needs
-
-add-places : tie.Need-add-places Inv-loop μ-loop
-add-places c = search needs
-
-slice-write-places : tie.Need-slice-write-places Inv-loop μ-loop
-slice-write-places c = search needs
-
-sub-i-2 : tie.Need-sub-i-2 Inv-loop μ-loop
-sub-i-2 c = search needs
 
 loop-less : tie.Need-loop-less Inv-loop μ-loop
 loop-less c =
@@ -46,15 +31,6 @@ loop-again c =
     let l = k₁ .before in
     found-more (l .before .args .n) (l .loop .places) (l .loop .i) (l .loop .rest) (l .loop .inv)
     (k₁ .loop-test .taken) (ltb-true 0 (l .loop .i) (c .if1 .taken))
-
-cast-places-2 : tie.Need-cast-places-2 Inv-loop μ-loop
-cast-places-2 c = search needs
-
-add-places-2 : tie.Need-add-places-2 Inv-loop μ-loop
-add-places-2 c = search needs
-
-slice-write-places-2 : tie.Need-slice-write-places-2 Inv-loop μ-loop
-slice-write-places-2 c = search needs
 
 same-length : tie.Need-same-length Inv-loop μ-loop
 same-length c =
@@ -72,19 +48,6 @@ returns c =
 pub spell-spec : {M : Type 1} → statement M
 spell-spec =
     tie.close
-    (tie.spec
-    Inv-loop
-    μ-loop
-    sub-i
-    loop-holds
-    cast-places
-    add-places
-    slice-write-places
-    sub-i-2
-    loop-less
-    loop-again
-    cast-places-2
-    add-places-2
-    slice-write-places-2
-    same-length
-    returns)
+    (tie.spec Inv-loop μ-loop (λ c. search needs) loop-holds (λ c. search needs) (λ c. search needs)
+    (λ c. search needs) (λ c. search needs) loop-less loop-again (λ c. search needs) (λ c. search needs)
+    (λ c. search needs) same-length returns)

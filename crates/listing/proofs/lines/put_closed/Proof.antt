@@ -10,9 +10,6 @@ use borrow.Author.Needs.{needs}
 use Rattle.listing.proofs.lines.put_closed.Statement.{statement}
 use Rattle.listing.proofs.lines.put_closed.Tie as tie
 
-has-room-requires : tie.Need-has-room-requires
-has-room-requires c κs = search needs
-
 returns : tie.Need-returns
 returns c =
     let r = c .before in
@@ -53,9 +50,6 @@ put-snapshot-requires-2 c κs =
     let h = has-room (now (a .out)) (a .at) closedSize _ (i .before .has-room .ensures) (i .if1 .left) in
     after-first (a .closed) h (m .put-major .ensures) (n .put-accumulation .ensures) (s .put-snapshot .ensures)
 
-same-length : tie.Need-same-length
-same-length c = search needs
-
 returns-2 : tie.Need-returns-2
 returns-2 c =
     let t = c .before .before in
@@ -72,12 +66,5 @@ returns-2 c =
 pub put-closed-spec : {M : Type 1} → statement M
 put-closed-spec =
     tie.close
-    (tie.spec
-    has-room-requires
-    returns
-    put-major-requires
-    put-accumulation-requires
-    put-snapshot-requires
-    put-snapshot-requires-2
-    same-length
-    returns-2)
+    (tie.spec (λ c κs. search needs) returns put-major-requires put-accumulation-requires put-snapshot-requires
+    put-snapshot-requires-2 (search needs) returns-2)

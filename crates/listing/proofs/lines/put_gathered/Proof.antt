@@ -28,12 +28,6 @@ mul-put-line c =
     let n = k .args .held in
     record { fits = cells-fit (k .args .each) n (omega (arith, k .pre)) (ones-le 64 n (k .fits .held .fits)) }
 
-put-line-requires : tie.Need-put-line-requires
-put-line-requires c κs = search needs
-
-same-length : tie.Need-same-length
-same-length c = search needs
-
 returns-2 : tie.Need-returns-2
 returns-2 c =
     let p = c .before .before in
@@ -44,4 +38,4 @@ returns-2 c =
 
 pub put-gathered-spec : {M : Type 1} → statement M
 put-gathered-spec =
-    tie.close (tie.spec returns cast-number mul-put-line put-line-requires same-length returns-2)
+    tie.close (tie.spec returns cast-number mul-put-line (λ c κs. search needs) (search needs) returns-2)

@@ -8,24 +8,15 @@ use borrow.Author.Needs.{needs}
 use Rattle.listing.proofs.lines.put_header.Statement.{statement}
 use Rattle.listing.proofs.lines.put_header.Tie as tie
 
-has-room-requires : tie.Need-has-room-requires
-has-room-requires c κs = search needs
-
 returns : tie.Need-returns
 returns c =
     let a = c .before .before .before .args in
     not-written 24 header (now (a .out)) (a .at) (no-room (now (a .out)) (a .at) 24 _ (c .before .has-room .ensures) (c .if1 .taken))
 
-slice-aggregate-put : tie.Need-slice-aggregate-put
-slice-aggregate-put c = search needs
-
 put-requires : tie.Need-put-requires
 put-requires c κs =
     let a = c .before .before .before .before .before .args in
     has-room (now (a .out)) (a .at) 24 _ (c .before .before .before .has-room .ensures) (c .before .before .if1 .left)
-
-same-length : tie.Need-same-length
-same-length c = search needs
 
 returns-2 : tie.Need-returns-2
 unfolding header
@@ -38,5 +29,4 @@ returns-2 c =
 
 pub put-header-spec : {M : Type 1} → statement M
 put-header-spec =
-    tie.close
-    (tie.spec has-room-requires returns slice-aggregate-put put-requires same-length returns-2)
+    tie.close (tie.spec (λ c κs. search needs) returns (search needs) put-requires (search needs) returns-2)

@@ -8,12 +8,6 @@ use borrow.Author.Needs.{needs}
 use Rattle.listing.proofs.lines.put_line.Statement.{statement}
 use Rattle.listing.proofs.lines.put_line.Tie as tie
 
-put-requires : tie.Need-put-requires
-put-requires c κs = search needs
-
-put-number-requires : tie.Need-put-number-requires
-put-number-requires c κs = search needs
-
 put-number-requires-2 : tie.Need-put-number-requires-2
 put-number-requires-2 c κs =
     let k₁ = c .before .before .before .before .before .before in
@@ -26,18 +20,12 @@ put-number-requires-3 c κs =
     let a = k₁ .before .before .before .before .before .before .before .args in
     omega (arith, length-decimal (a .first), length-decimal (a .frames))
 
-slice-aggregate-put : tie.Need-slice-aggregate-put
-slice-aggregate-put c = search needs
-
 put-requires-2 : tie.Need-put-requires-2
 put-requires-2 c κs =
     let k₂ = c .before .before .before .before .before .before .before .before .before in
     let k₁ = k₂ .before .before .before .before .before .before in
     let a = k₁ .before .before .before .before .before .args in
     omega (arith, length-decimal (a .first), length-decimal (a .frames), length-decimal (a .cells))
-
-same-length : tie.Need-same-length
-same-length c = search needs
 
 returns : tie.Need-returns
 unfolding lineOf
@@ -60,12 +48,5 @@ returns c =
 pub put-line-spec : {M : Type 1} → statement M
 put-line-spec =
     tie.close
-    (tie.spec
-    put-requires
-    put-number-requires
-    put-number-requires-2
-    put-number-requires-3
-    slice-aggregate-put
-    put-requires-2
-    same-length
-    returns)
+    (tie.spec (λ c κs. search needs) (λ c κs. search needs) put-number-requires-2 put-number-requires-3 (search needs)
+    put-requires-2 (search needs) returns)

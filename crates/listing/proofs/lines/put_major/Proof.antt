@@ -20,12 +20,6 @@ returns-2 c =
     let a = k₀ .args in
     major-far (now (a .out)) (a .at) (a .report) (omega (arith, k₀ .pre)) (k₁ .if1 .left) (c .if2 .taken)
 
-slice-aggregate-put-line : tie.Need-slice-aggregate-put-line
-slice-aggregate-put-line c = search needs
-
-mul-put-line : tie.Need-mul-put-line
-mul-put-line c = search needs
-
 cast-put-line : tie.Need-cast-put-line
 cast-put-line c =
     let k = c .before .before .before .before .before .before .before .before .before in
@@ -43,12 +37,6 @@ mul-put-line-2 c =
     let k₀ = k₁ .before .before .before .before .before in
     record { fits = omega (arith, ones-le 16 (k₀ .args .report .frame .«mag_slots») (c .struct-known5 .given .1 .1 .1 .1 .0 .fits)) }
 
-put-line-requires : tie.Need-put-line-requires
-put-line-requires c κs = search needs
-
-same-length : tie.Need-same-length
-same-length c = search needs
-
 returns-3 : tie.Need-returns-3
 returns-3 c =
     let k₃ = c .before .before in
@@ -60,14 +48,5 @@ returns-3 c =
 pub put-major-spec : {M : Type 1} → statement M
 put-major-spec =
     tie.close
-    (tie.spec
-    returns
-    returns-2
-    slice-aggregate-put-line
-    mul-put-line
-    cast-put-line
-    cast-put-line-2
-    mul-put-line-2
-    put-line-requires
-    same-length
-    returns-3)
+    (tie.spec returns returns-2 (search needs) (search needs) cast-put-line cast-put-line-2 mul-put-line-2
+    (λ c κs. search needs) (search needs) returns-3)

@@ -10,16 +10,10 @@ use borrow.Author.Needs.{needs}
 use Rattle.listing.proofs.lines.put_refused.Statement.{statement}
 use Rattle.listing.proofs.lines.put_refused.Tie as tie
 
-has-room-requires : tie.Need-has-room-requires
-has-room-requires c κs = search needs
-
 returns : tie.Need-returns
 returns c =
     let a = c .before .before .before .args in
     not-written 29 (refusedLine (a .refused)) (now (a .out)) (a .at) (no-room (now (a .out)) (a .at) 29 _ (c .before .has-room .ensures) (c .if1 .taken))
-
-slice-aggregate-put : tie.Need-slice-aggregate-put
-slice-aggregate-put c = search needs
 
 put-requires : tie.Need-put-requires
 put-requires c κs =
@@ -35,9 +29,6 @@ put-number-requires c κs =
     let h = has-room (now (a .out)) (a .at) 29 _ (i .before .has-room .ensures) (i .if1 .left) in
     omega (arith, h)
 
-slice-aggregate-put-2 : tie.Need-slice-aggregate-put-2
-slice-aggregate-put-2 c = search needs
-
 put-requires-2 : tie.Need-put-requires-2
 put-requires-2 c κs =
     let k₁ = c .before .before .before .before .before .before in
@@ -45,9 +36,6 @@ put-requires-2 c κs =
     let a = i .before .before .before .args in
     let h = has-room (now (a .out)) (a .at) 29 _ (i .before .has-room .ensures) (i .if1 .left) in
     omega (arith, h, length-decimal (a .refused))
-
-same-length : tie.Need-same-length
-same-length c = search needs
 
 returns-2 : tie.Need-returns-2
 unfolding refusedLine
@@ -66,13 +54,5 @@ returns-2 c =
 pub put-refused-spec : {M : Type 1} → statement M
 put-refused-spec =
     tie.close
-    (tie.spec
-    has-room-requires
-    returns
-    slice-aggregate-put
-    put-requires
-    put-number-requires
-    slice-aggregate-put-2
-    put-requires-2
-    same-length
-    returns-2)
+    (tie.spec (λ c κs. search needs) returns (search needs) put-requires put-number-requires (search needs)
+    put-requires-2 (search needs) returns-2)

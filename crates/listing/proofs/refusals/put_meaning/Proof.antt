@@ -10,9 +10,6 @@ use borrow.Author.Needs.{needs}
 use Rattle.listing.proofs.refusals.put_meaning.Statement.{statement}
 use Rattle.listing.proofs.refusals.put_meaning.Tie as tie
 
-has-room-requires : tie.Need-has-room-requires
-has-room-requires c κs = search needs
-
 returns : tie.Need-returns
 returns c =
     let k = c .before in
@@ -25,9 +22,6 @@ put-words-requires c κs =
     let a = i .before .before .before .args in
     omega (arith, has-room (now (a .out)) (a .at) 80 _ (i .before .has-room .ensures) (i .if1 .left))
 
-slice-aggregate-put : tie.Need-slice-aggregate-put
-slice-aggregate-put c = search needs
-
 put-requires : tie.Need-put-requires
 put-requires c κs =
     let w = c .before .before .before .before in
@@ -35,9 +29,6 @@ put-requires c κs =
     let a = i .before .before .before .args in
     let h = has-room (now (a .out)) (a .at) 80 _ (i .before .has-room .ensures) (i .if1 .left) in
     room-after (w .put-words .ensures) 1 (omega (arith, h, length-words (a .rule)))
-
-same-length : tie.Need-same-length
-same-length c = search needs
 
 returns-2 : tie.Need-returns-2
 unfolding meaningText
@@ -51,4 +42,5 @@ returns-2 c =
 
 pub put-meaning-spec : {M : Type 1} → statement M
 put-meaning-spec =
-    tie.close (tie.spec has-room-requires returns put-words-requires slice-aggregate-put put-requires same-length returns-2)
+    tie.close
+    (tie.spec (λ c κs. search needs) returns put-words-requires (search needs) put-requires (search needs) returns-2)

@@ -8,18 +8,6 @@ use borrow.Author.Needs.{needs}
 use Rattle.listing.proofs.refusals.put_place.Statement.{statement}
 use Rattle.listing.proofs.refusals.put_place.Tie as tie
 
-slice-aggregate-put : tie.Need-slice-aggregate-put
-slice-aggregate-put c = search needs
-
-put-requires : tie.Need-put-requires
-put-requires c κs = search needs
-
-put-number-requires : tie.Need-put-number-requires
-put-number-requires c κs = search needs
-
-slice-aggregate-put-2 : tie.Need-slice-aggregate-put-2
-slice-aggregate-put-2 c = search needs
-
 put-requires-2 : tie.Need-put-requires-2
 put-requires-2 c κs =
     let k₁ = c .before .before .before .before .before .before in
@@ -31,9 +19,6 @@ put-number-requires-2 c κs =
     let k₁ = c .before .before .before .before .before .before .before .before in
     let k₀ = k₁ .before .before .before .before .before .before .before .before in
     omega (arith, length-decimal (k₀ .args .number))
-
-same-length : tie.Need-same-length
-same-length c = search needs
 
 returns : tie.Need-returns
 unfolding recordPlace
@@ -52,12 +37,5 @@ returns c =
 pub put-place-spec : {M : Type 1} → statement M
 put-place-spec =
     tie.close
-    (tie.spec
-    slice-aggregate-put
-    put-requires
-    put-number-requires
-    slice-aggregate-put-2
-    put-requires-2
-    put-number-requires-2
-    same-length
-    returns)
+    (tie.spec (search needs) (λ c κs. search needs) (λ c κs. search needs) (search needs) put-requires-2
+    put-number-requires-2 (search needs) returns)

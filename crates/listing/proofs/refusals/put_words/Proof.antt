@@ -24,21 +24,6 @@ returns-2 c =
     let a = c .before .before .before .args in
     no-words (a .rule) (now (a .out)) (a .at) (omega (arith, c .before .before .before .pre)) (words-past (a .rule) (c .if2 .taken))
 
-sub-from : tie.Need-sub-from
-sub-from c = search needs
-
-mul-from : tie.Need-mul-from
-mul-from c = search needs
-
-array-read-from : tie.Need-array-read-from
-array-read-from c = search needs
-
-mul-to : tie.Need-mul-to
-mul-to c = search needs
-
-array-read-to : tie.Need-array-read-to
-array-read-to c = search needs
-
 sub-put : tie.Need-sub-put
 unfolding text ends
 sub-put c = row-of (c .before .before .before .args .rule) (omega (arith, c .if2 .left)) .from-to
@@ -57,9 +42,6 @@ put-requires c κs =
     let r = row-of (c .before .before .before .before .before .before .args .rule) (omega (arith, c .before .before .before .if2 .left)) in
     omega (arith, ap length (r .is), r .short)
 
-same-length : tie.Need-same-length
-same-length c = search needs
-
 returns-3 : tie.Need-returns-3
 unfolding text ends
 returns-3 c =
@@ -74,17 +56,5 @@ returns-3 c =
 pub put-words-spec : {M : Type 1} → statement M
 put-words-spec =
     tie.close
-    (tie.spec
-    returns
-    returns-2
-    sub-from
-    mul-from
-    array-read-from
-    mul-to
-    array-read-to
-    sub-put
-    part-put-start
-    part-put-end
-    put-requires
-    same-length
-    returns-3)
+    (tie.spec returns returns-2 (search needs) (search needs) (search needs) (search needs) (search needs) sub-put
+    part-put-start part-put-end put-requires (search needs) returns-3)

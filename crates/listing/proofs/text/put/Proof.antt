@@ -6,19 +6,11 @@ use borrow.Author.Needs.{needs}
 use Rattle.listing.proofs.text.put.Statement.{statement}
 use Rattle.listing.proofs.text.put.Tie as tie
 
-lay-requires : tie.Need-lay-requires
-lay-requires c κs = search needs
-
-add-result : tie.Need-add-result
-add-result c = search needs
-
-same-length : tie.Need-same-length
-same-length c = search needs
-
 returns : tie.Need-returns
 returns c =
     let a = c .before .before .before .before .before .before in
     put-one (now (a .args .out)) (a .args .at) (now (a .args .text)) _ (a .pre) (c .before .before .lay .ensures)
 
 pub put-spec : {M : Type 1} → statement M
-put-spec = tie.close (tie.spec lay-requires add-result same-length returns)
+put-spec =
+    tie.close (tie.spec (λ c κs. search needs) (search needs) (search needs) returns)

@@ -5,29 +5,17 @@ use Rattle.prelude.proofs.Conds.{held, fails}
 use Rattle.major.specs.Soundness.{majorSound}
 use Rattle.major.proofs.soundness.is_sound.Statement.{statement}
 use Rattle.major.proofs.soundness.is_sound.Tie as tie
-use Rattle.major.proofs.soundness.major_now.Reads as major-now-reads
-use Rattle.major.proofs.soundness.no_slot.Reads as no-slot-reads
-use Rattle.major.proofs.soundness.slots_hold.Reads as slots-hold-reads
-
-slots-hold-requires : tie.Need-slots-hold-requires
-slots-hold-requires c κs = search needs
 
 returns : tie.Need-returns
 unfolding majorSound
 returns c =
     rw (fails (c .before .slots-hold .ensures) (c .if1 .taken))
 
-major-now-requires : tie.Need-major-now-requires
-major-now-requires c κs = search needs
-
 returns-2 : tie.Need-returns-2
 unfolding majorSound
 returns-2 c =
     let p1 = c .before .before in
     rw (held (p1 .before .slots-hold .ensures) (p1 .if1 .left), fails (c .before .major-now .ensures) (c .if2 .taken))
-
-no-slot-requires : tie.Need-no-slot-requires
-no-slot-requires c κs = search needs
 
 returns-3 : tie.Need-returns-3
 unfolding majorSound
@@ -39,12 +27,6 @@ returns-3 c =
       held (p2 .before .major-now .ensures) (p2 .if2 .left),
       fails (c .before .no-slot .ensures) (c .if3 .taken),
     )
-
-cast-begun : tie.Need-cast-begun
-cast-begun c = search needs
-
-begun-requires : tie.Need-begun-requires
-begun-requires c κs = search needs
 
 returns-4 : tie.Need-returns-4
 unfolding majorSound
@@ -62,13 +44,5 @@ returns-4 c =
 pub is-sound-spec : {M : Type 1} → statement M
 is-sound-spec =
     tie.close
-    (tie.spec
-    slots-hold-requires
-    returns
-    major-now-requires
-    returns-2
-    no-slot-requires
-    returns-3
-    cast-begun
-    begun-requires
-    returns-4)
+    (tie.spec (λ c κs. search needs) returns (λ c κs. search needs) returns-2 (λ c κs. search needs) returns-3
+    (search needs) (λ c κs. search needs) returns-4)

@@ -15,15 +15,10 @@ returns-2 : tie.Need-returns-2
 unfolding majorNow
 returns-2 c = search (needs, eq-eqb, ne-eqb, le-leb, lt-leb, lt-ltb, le-ltb)
 
-cast-result : tie.Need-cast-result
-cast-result c = search needs
-
-shr-result : tie.Need-shr-result
-shr-result c = search needs
-
 returns-3 : tie.Need-returns-3
 unfolding majorNow highest
 returns-3 c = search (needs, eq-eqb, ne-eqb, le-leb, lt-leb, lt-ltb, le-ltb)
 
 pub major-now-spec : {M : Type 1} → statement M
-major-now-spec = tie.close (tie.spec returns returns-2 cast-result shr-result returns-3)
+major-now-spec =
+    tie.close (tie.spec returns returns-2 (search needs) (search needs) returns-3)

@@ -25,24 +25,6 @@ abbrev μ-loop : tie.MeasureT-loop
 loop-holds : tie.Need-loop-holds Inv-loop μ-loop
 loop-holds c = (omega arith, refl)
 
-element-copy-out-slot-holds : tie.Need-element-copy-out-slot-holds Inv-loop μ-loop
-element-copy-out-slot-holds c = search needs
-
-mul-slot-holds : tie.Need-mul-slot-holds Inv-loop μ-loop
-mul-slot-holds c = search needs
-
-element-copy-out-slot-holds-2 : tie.Need-element-copy-out-slot-holds-2 Inv-loop μ-loop
-element-copy-out-slot-holds-2 c = search needs
-
-slot-holds-requires : tie.Need-slot-holds-requires Inv-loop μ-loop
-slot-holds-requires c κs = search needs
-
-add-i : tie.Need-add-i Inv-loop μ-loop
-add-i c = search needs
-
-loop-less : tie.Need-loop-less Inv-loop μ-loop
-loop-less c = search needs
-
 loop-again : tie.Need-loop-again Inv-loop μ-loop
 unfolding slotHolds
 loop-again c =
@@ -57,15 +39,5 @@ returns c = let l = c .before in let e : l .loop .i ≡ 16 = omega arith in l .l
 pub slots-hold-spec : {M : Type 1} → statement M
 slots-hold-spec =
     tie.close
-    (tie.spec
-    Inv-loop
-    μ-loop
-    loop-holds
-    element-copy-out-slot-holds
-    mul-slot-holds
-    element-copy-out-slot-holds-2
-    slot-holds-requires
-    add-i
-    loop-less
-    loop-again
-    returns)
+    (tie.spec Inv-loop μ-loop loop-holds (search needs) (search needs) (search needs) (λ c κs. search needs)
+    (search needs) (search needs) loop-again returns)

@@ -5,28 +5,13 @@ use borrow.Author.Needs.{needs}
 use Rattle.major.proofs.steps.put_slot.Statement.{statement}
 use Rattle.major.proofs.steps.put_slot.Tie as tie
 
-cast-mark : tie.Need-cast-mark
-cast-mark c = search needs
-
-shl-mark : tie.Need-shl-mark
-shl-mark c = search needs
-
 add-n : tie.Need-add-n
 add-n c = let a = c .before .args in record { fits = mark-fits (a .m .slots) (a .d) (c .before .pre .0) }
-
-mul-n : tie.Need-mul-n
-mul-n c = search needs
-
-element-write-n : tie.Need-element-write-n
-element-write-n c = search needs
 
 add-n-2 : tie.Need-add-n-2
 add-n-2 c =
     let k = c .before .before .before in
     record { fits = mag-fits (k .args .m) (k .args .d) (c .struct-known2 .given .1 .1 .1 .1 .0 .fits) (k .pre .1) }
-
-element-write-n-2 : tie.Need-element-write-n-2
-element-write-n-2 c = search needs
 
 returns : tie.Need-returns
 returns c = let a = c .before .before .before .args in is-into (a .m) (a .d) (a .mag) (a .range) (a .word) (c .before .if1 .taken)
@@ -37,13 +22,5 @@ returns-2 c = let a = c .before .before .args in is-beside (a .m) (a .d) (a .mag
 pub put-slot-spec : {M : Type 1} → statement M
 put-slot-spec =
     tie.close
-    (tie.spec
-    cast-mark
-    shl-mark
-    add-n
-    mul-n
-    element-write-n
-    add-n-2
-    element-write-n-2
-    returns
+    (tie.spec (search needs) (search needs) add-n (search needs) (search needs) add-n-2 (search needs) returns
     returns-2)

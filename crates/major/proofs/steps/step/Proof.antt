@@ -5,28 +5,12 @@ use Rattle.major.proofs.Parts.{room-free, is-renewed, is-left, is-staye
 use borrow.Author.Needs.{needs}
 use Rattle.major.proofs.steps.step.Statement.{statement}
 use Rattle.major.proofs.steps.step.Tie as tie
-use Rattle.major.proofs.steps.continues_at.Reads as continues-at-reads
-use Rattle.major.proofs.steps.leave.Reads as leave-reads
-use Rattle.major.proofs.steps.stay.Reads as stay-reads
-use Rattle.major.proofs.steps.renew.Reads as renew-reads
-
-continues-at-requires : tie.Need-continues-at-requires
-continues-at-requires c κs = search needs
-
-renew-requires : tie.Need-renew-requires
-renew-requires c κs = search needs
 
 returns : tie.Need-returns
 returns c =
     let k = c .before .before in
     let a = k .before .args in
     is-renewed (a .m) (a .d) (a .mag) (a .range) (a .word) _ (fails (k .continues-at .ensures) (c .before .if1 .taken)) (c .renew .ensures)
-
-slot-free-requires : tie.Need-slot-free-requires
-slot-free-requires c κs = search needs
-
-leave-requires : tie.Need-leave-requires
-leave-requires c κs = search needs
 
 returns-2 : tie.Need-returns-2
 returns-2 c =
@@ -52,12 +36,5 @@ returns-3 c =
 pub step-spec : {M : Type 1} → statement M
 step-spec =
     tie.close
-    (tie.spec
-    continues-at-requires
-    renew-requires
-    returns
-    slot-free-requires
-    leave-requires
-    returns-2
-    stay-requires
-    returns-3)
+    (tie.spec (λ c κs. search needs) (λ c κs. search needs) returns (λ c κs. search needs) (λ c κs. search needs)
+    returns-2 stay-requires returns-3)

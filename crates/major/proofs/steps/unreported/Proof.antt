@@ -3,13 +3,10 @@
 use borrow.Author.Needs.{needs}
 use Rattle.major.proofs.steps.unreported.Statement.{statement}
 use Rattle.major.proofs.steps.unreported.Tie as tie
-use Rattle.major.proofs.steps.no_major.Reads as no-major-reads
-
-no-major-requires : tie.Need-no-major-requires
-no-major-requires c κs = search needs
 
 returns : tie.Need-returns
 returns c = rw (c .no-major .ensures)
 
 pub unreported-spec : {M : Type 1} → statement M
-unreported-spec = tie.close (tie.spec no-major-requires returns)
+unreported-spec =
+    tie.close (tie.spec (λ c κs. search needs) returns)

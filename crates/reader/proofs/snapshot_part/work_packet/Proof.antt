@@ -14,12 +14,6 @@ lay-packet-requires c κs =
     let s = k .before .before .before .before .before .before .before in
     cleared-burst (s .args .work) (s .args .second) (s .pre) (k .close .ensures .opened)
 
-same-length : tie.Need-same-length
-same-length c = search needs
-
-same-length-2 : tie.Need-same-length-2
-same-length-2 c = search needs
-
 returns : tie.Need-returns
 returns c =
     let l = c .before .before in
@@ -27,4 +21,5 @@ returns c =
     packet-worked (l .lay-packet .ensures) (k .close .ensures)
 
 pub work-packet-spec : {M : Type 1} → statement M
-work-packet-spec = tie.close (tie.spec close-requires lay-packet-requires same-length same-length-2 returns)
+work-packet-spec =
+    tie.close (tie.spec close-requires lay-packet-requires (search needs) (search needs) returns)

@@ -20,15 +20,6 @@ work-packet-requires-3 c κs =
     let a = w .before .before .before .before .before .before .before in
     first-again (a .args .one) (a .args .two) (w .work-packet .ensures) (a .pre) (c .before .before .if1 .left)
 
-same-length : tie.Need-same-length
-same-length c = search needs
-
-same-length-2 : tie.Need-same-length-2
-same-length-2 c = search needs
-
-same-length-3 : tie.Need-same-length-3
-same-length-3 c = search needs
-
 returns : tie.Need-returns
 returns c =
     let y = c .before .before .before .before in
@@ -36,12 +27,6 @@ returns c =
     let w = t .before .before .before .before .before in
     let a = w .before .before .before .before .before .before .before in
     into-second (a .args .one) (a .args .two) (w .work-packet .ensures) (t .if1 .taken) (y .work-packet2 .ensures)
-
-same-length-4 : tie.Need-same-length-4
-same-length-4 c = search needs
-
-same-length-5 : tie.Need-same-length-5
-same-length-5 c = search needs
 
 returns-2 : tie.Need-returns-2
 returns-2 c =
@@ -54,14 +39,5 @@ returns-2 c =
 pub work-packets-spec : {M : Type 1} → statement M
 work-packets-spec =
     tie.close
-    (tie.spec
-    work-packet-requires
-    work-packet-requires-2
-    work-packet-requires-3
-    same-length
-    same-length-2
-    same-length-3
-    returns
-    same-length-4
-    same-length-5
-    returns-2)
+    (tie.spec work-packet-requires work-packet-requires-2 work-packet-requires-3 (search needs) (search needs)
+    (search needs) returns (search needs) (search needs) returns-2)

@@ -6,25 +6,10 @@ use borrow.Author.Needs.{needs}
 use Rattle.reader.proofs.snapshot_part.work_snapshot.Statement.{statement}
 use Rattle.reader.proofs.snapshot_part.work_snapshot.Tie as tie
 
-is-busy-requires : tie.Need-is-busy-requires
-is-busy-requires c κs = search needs
-
-is-busy-requires-2 : tie.Need-is-busy-requires-2
-is-busy-requires-2 c κs = search needs
-
 work-packets-requires : tie.Need-work-packets-requires
 work-packets-requires c κs =
     let one = c .before .before .before .before .before in
     one .before .before .before .before .before .pre
-
-same-length : tie.Need-same-length
-same-length c = search needs
-
-same-length-2 : tie.Need-same-length-2
-same-length-2 c = search needs
-
-same-length-3 : tie.Need-same-length-3
-same-length-3 c = search needs
 
 returns : tie.Need-returns
 returns c = c .before .before .before .before .before .before .work-packets .ensures
@@ -39,12 +24,5 @@ returns-2 c =
 pub work-snapshot-spec : {M : Type 1} → statement M
 work-snapshot-spec =
     tie.close
-    (tie.spec
-    is-busy-requires
-    is-busy-requires-2
-    work-packets-requires
-    same-length
-    same-length-2
-    same-length-3
-    returns
-    returns-2)
+    (tie.spec (λ c κs. search needs) (λ c κs. search needs) work-packets-requires (search needs) (search needs)
+    (search needs) returns returns-2)

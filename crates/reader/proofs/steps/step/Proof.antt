@@ -1,89 +1,41 @@
 -- `reader::steps::step` meets its contract.
 -- Assumes nothing.
 use denote.Ref.{now}
-use Rattle.reader.specs.Buffers.{buffers}
+use Rattle.reader.specs.Buffers.{Buffers, buffers}
+use Rattle.reader.specs.inner.Asked.{AllReady}
 use Rattle.reader.proofs.Outcomes.{all-worked, of-whole, step-ready, step-is}
 use borrow.Author.Needs.{needs}
 use Rattle.reader.proofs.steps.step.Statement.{statement}
 use Rattle.reader.proofs.steps.step.Tie as tie
 
-right-sizes-requires : tie.Need-right-sizes-requires
-right-sizes-requires c κs = search needs
+-- the places: at the start, with the sizes looked at, decided, with the packet found
+abbrev sized : tie.After-packet-in → tie.After-right-sizes
+sized p = p .before .before .before .before .before
 
-sub-record : tie.Need-sub-record
-sub-record c = search needs
+abbrev start : tie.After-packet-in → tie.Start
+start p = sized p .before .before .before .before .before .before .before
 
-part-record-start : tie.Need-part-record-start
-part-record-start c = search needs
+abbrev lent : tie.After-packet-in → Buffers
+lent p =
+    let a = start p .args in
+    buffers (now (a .open-cells)) (now (a .finished-cells)) (now (a .open-samples)) (now (a .finished-samples))
+    (now (a .open-snapshot)) (now (a .first-snapshot)) (now (a .second-snapshot))
 
-part-record-end : tie.Need-part-record-end
-part-record-end c = search needs
-
-decide-requires : tie.Need-decide-requires
-decide-requires c κs = search needs
-
-packet-in-requires : tie.Need-packet-in-requires
-packet-in-requires c κs = search needs
+ready : (p : tie.After-packet-in) → AllReady (p .before .before .before .decide .result .works) (now (p .packet-in .result)) (lent p)
+ready p =
+    step-ready (start p .args .state) (lent p) _ _ (sized p .right-sizes .ensures) _ (p .before .before .before .decide .ensures)
+    _ _ _ (p .packet-in .ensures)
 
 work-samples-requires : tie.Need-work-samples-requires
-work-samples-requires c κs =
-    let p = c .before .before in
-    let d = p .before .before .before in
-    let z = d .before .before in
-    let a = z .before .before .before .before .before .before .before .args in
-    let b =
-    buffers (now (a .open-cells)) (now (a .finished-cells)) (now (a .open-samples)) (now (a .finished-samples))
-    (now (a .open-snapshot)) (now (a .first-snapshot)) (now (a .second-snapshot))
-    in
-    step-ready (a .state) b _ _ (z .right-sizes .ensures) _ (d .decide .ensures) _ _ _ (p .packet-in .ensures) .samples
+work-samples-requires c κs = ready (c .before .before) .samples
 
 work-cells-requires : tie.Need-work-cells-requires
-work-cells-requires c κs =
-    let v = c .before .before .before .before in
-    let p = v .before .before .before in
-    let d = p .before .before .before in
-    let z = d .before .before in
-    let a = z .before .before .before .before .before .before .before .args in
-    let b =
-    buffers (now (a .open-cells)) (now (a .finished-cells)) (now (a .open-samples)) (now (a .finished-samples))
-    (now (a .open-snapshot)) (now (a .first-snapshot)) (now (a .second-snapshot))
-    in
-    step-ready (a .state) b _ _ (z .right-sizes .ensures) _ (d .decide .ensures) _ _ _ (p .packet-in .ensures) .cells
+work-cells-requires c κs = ready (c .before .before .before .before .before .before .before) .cells
 
 work-snapshot-requires : tie.Need-work-snapshot-requires
 work-snapshot-requires c κs =
     let w = c .before .before .before .before .before .before .before in
-    let v = w .before .before .before .before .before in
-    let p = v .before .before .before in
-    let d = p .before .before .before in
-    let z = d .before .before in
-    let a = z .before .before .before .before .before .before .before .args in
-    let b =
-    buffers (now (a .open-cells)) (now (a .finished-cells)) (now (a .open-samples)) (now (a .finished-samples))
-    (now (a .open-snapshot)) (now (a .first-snapshot)) (now (a .second-snapshot))
-    in
-    step-ready (a .state) b _ _ (z .right-sizes .ensures) _ (d .decide .ensures) _ _ _ (p .packet-in .ensures) .snapshot
-
-same-length : tie.Need-same-length
-same-length c = search needs
-
-same-length-2 : tie.Need-same-length-2
-same-length-2 c = search needs
-
-same-length-3 : tie.Need-same-length-3
-same-length-3 c = search needs
-
-same-length-4 : tie.Need-same-length-4
-same-length-4 c = search needs
-
-same-length-5 : tie.Need-same-length-5
-same-length-5 c = search needs
-
-same-length-6 : tie.Need-same-length-6
-same-length-6 c = search needs
-
-same-length-7 : tie.Need-same-length-7
-same-length-7 c = search needs
+    ready (w .before .before .before .before .before .before .before .before) .snapshot
 
 returns : tie.Need-returns
 returns c =
@@ -92,37 +44,17 @@ returns c =
     let v = w .before .before .before .before .before in
     let p = v .before .before .before in
     let d = p .before .before .before in
-    let z = d .before .before in
-    let a = z .before .before .before .before .before .before .before .args in
-    let b =
-    buffers (now (a .open-cells)) (now (a .finished-cells)) (now (a .open-samples)) (now (a .finished-samples))
-    (now (a .open-snapshot)) (now (a .first-snapshot)) (now (a .second-snapshot))
-    in
+    let s = start p .args .state in
     let done =
-    all-worked (d .decide .result .works) (now (p .packet-in .result)) b
+    all-worked (d .decide .result .works) (now (p .packet-in .result)) (lent p)
     _ _ _ _ _ _ _ (v .work-samples .ensures) (w .work-cells .ensures) (n .work-snapshot .ensures)
     in
-    of-whole (a .state) b (now (a .r))
-    (step-is (a .state) b _ _ (z .right-sizes .ensures) _ (d .decide .ensures) _ _ _ (p .packet-in .ensures) _ done)
+    of-whole s (lent p) (now (start p .args .r))
+    (step-is s (lent p) _ _ (sized p .right-sizes .ensures) _ (d .decide .ensures) _ _ _ (p .packet-in .ensures) _ done)
 
 pub step-spec : {M : Type 1} → statement M
 step-spec =
     tie.close
-    (tie.spec
-    right-sizes-requires
-    sub-record
-    part-record-start
-    part-record-end
-    decide-requires
-    packet-in-requires
-    work-samples-requires
-    work-cells-requires
-    work-snapshot-requires
-    same-length
-    same-length-2
-    same-length-3
-    same-length-4
-    same-length-5
-    same-length-6
-    same-length-7
-    returns)
+    (tie.spec (λ c κs. search needs) (search needs) (search needs) (search needs) (λ c κs. search needs)
+    (λ c κs. search needs) work-samples-requires work-cells-requires work-snapshot-requires (search needs)
+    (search needs) (search needs) (search needs) (search needs) (search needs) (search needs) returns)

@@ -5,9 +5,6 @@ use borrow.Author.Needs.{needs}
 use Rattle.record.proofs.frame.first_burst.Statement.{statement}
 use Rattle.record.proofs.frame.first_burst.Tie as tie
 
-carries-burst-requires : tie.Need-carries-burst-requires
-carries-burst-requires c κs = search needs
-
 returns : tie.Need-returns
 returns c = rw (sym (c .before .carries-burst .ensures) ∙ c .if1 .taken)
 
@@ -15,4 +12,5 @@ returns-2 : tie.Need-returns-2
 returns-2 c = rw (sym (c .before .carries-burst .ensures) ∙ c .if1 .left)
 
 pub first-burst-spec : {M : Type 1} → statement M
-first-burst-spec = tie.close (tie.spec carries-burst-requires returns returns-2)
+first-burst-spec =
+    tie.close (tie.spec (search needs) returns returns-2)

@@ -6,21 +6,6 @@ use borrow.Author.Needs.{needs}
 use Rattle.record.proofs.frame.kind_number.Statement.{statement}
 use Rattle.record.proofs.frame.kind_number.Tie as tie
 
-enum-known-kind : tie.Need-enum-known-kind
-enum-known-kind c = search needs
-
-enum-told : tie.Need-enum-told
-enum-told c = search needs
-
-enum-told-2 : tie.Need-enum-told-2
-enum-told-2 c = search needs
-
-enum-told-3 : tie.Need-enum-told-3
-enum-told-3 c = search needs
-
-enum-told-4 : tie.Need-enum-told-4
-enum-told-4 c = search needs
-
 returns : tie.Need-returns
 unfolding kindNumber
 returns c = sym (ap kindNumber (c .before .kind .given .1))
@@ -44,4 +29,5 @@ returns-5 c = sym (ap kindNumber (c .enum-told4 .given .1))
 pub kind-number-spec : {M : Type 1} → statement M
 kind-number-spec =
     tie.close
-    (tie.spec enum-known-kind enum-told enum-told-2 enum-told-3 enum-told-4 returns returns-2 returns-3 returns-4 returns-5)
+    (tie.spec (search needs) (search needs) (search needs) (search needs) (search needs) returns returns-2 returns-3
+    returns-4 returns-5)

@@ -11,41 +11,27 @@ returns : tie.Need-returns
 unfolding kindOfCodes
 returns c = search (needs, le-leb, lt-leb, eq-eqb, ne-eqb)
 
-is-burst-requires : tie.Need-is-burst-requires
-is-burst-requires c κs = search needs
-
 returns-2 : tie.Need-returns-2
 unfolding kindOfCodes
 returns-2 c =
     let b = c .before .before in
     rw (lt-leb _ 35 (b .before .if1 .left), sym (b .is-burst .ensures) ∙ c .before .if2 .taken, ne-eqb _ 1 (c .if3 .taken))
 
-is-burst-requires-2 : tie.Need-is-burst-requires-2
-is-burst-requires-2 c κs = search needs
-
 returns-3 : tie.Need-returns-3
 unfolding kindOfCodes
 returns-3 c =
     let s = c .before in
     let b = s .before .before .before in
-    rw (
-      lt-leb _ 35 (b .before .if1 .left),
-      sym (b .is-burst .ensures) ∙ s .before .before .if2 .taken,
-      eq-eqb _ 1 (s .before .if3 .left),
-      sym (s .is-burst2 .ensures) ∙ c .if4 .taken,
-    )
+    let first = sym (b .is-burst .ensures) ∙ s .before .before .if2 .taken in
+    rw (lt-leb _ 35 (b .before .if1 .left), first, eq-eqb _ 1 (s .before .if3 .left), sym (s .is-burst2 .ensures) ∙ c .if4 .taken)
 
 returns-4 : tie.Need-returns-4
 unfolding kindOfCodes
 returns-4 c =
     let s = c .before in
     let b = s .before .before .before in
-    rw (
-      lt-leb _ 35 (b .before .if1 .left),
-      sym (b .is-burst .ensures) ∙ s .before .before .if2 .taken,
-      eq-eqb _ 1 (s .before .if3 .left),
-      sym (s .is-burst2 .ensures) ∙ c .if4 .left,
-    )
+    let first = sym (b .is-burst .ensures) ∙ s .before .before .if2 .taken in
+    rw (lt-leb _ 35 (b .before .if1 .left), first, eq-eqb _ 1 (s .before .if3 .left), sym (s .is-burst2 .ensures) ∙ c .if4 .left)
 
 returns-5 : tie.Need-returns-5
 unfolding kindOfCodes
@@ -61,13 +47,4 @@ returns-6 c =
 
 pub kind-of-codes-spec : {M : Type 1} → statement M
 kind-of-codes-spec =
-    tie.close
-    (tie.spec
-    returns
-    is-burst-requires
-    returns-2
-    is-burst-requires-2
-    returns-3
-    returns-4
-    returns-5
-    returns-6)
+    tie.close (tie.spec returns (search needs) returns-2 (search needs) returns-3 returns-4 returns-5 returns-6)

@@ -5,9 +5,6 @@ use borrow.Author.Needs.{needs}
 use Rattle.record.proofs.frame.second_burst.Statement.{statement}
 use Rattle.record.proofs.frame.second_burst.Tie as tie
 
-carries-two-requires : tie.Need-carries-two-requires
-carries-two-requires c κs = search needs
-
 returns : tie.Need-returns
 returns c = rw (sym (c .before .carries-two .ensures) ∙ c .if1 .taken)
 
@@ -15,4 +12,5 @@ returns-2 : tie.Need-returns-2
 returns-2 c = rw (sym (c .before .carries-two .ensures) ∙ c .if1 .left)
 
 pub second-burst-spec : {M : Type 1} → statement M
-second-burst-spec = tie.close (tie.spec carries-two-requires returns returns-2)
+second-burst-spec =
+    tie.close (tie.spec (search needs) returns returns-2)

@@ -10,22 +10,10 @@ use borrow.Author.Needs.{needs}
 use Rattle.record.proofs.part.part.Statement.{statement}
 use Rattle.record.proofs.part.part.Tie as tie
 
-slice-aggregate-result : tie.Need-slice-aggregate-result
-slice-aggregate-result c = search needs
-
 returns : tie.Need-returns
 returns c =
     let a = c .before .before .args in
     no-part _ (now (a .b)) (a .at) (a .n) (a .b .ptr) (ne-eqb (length (now (a .b))) (a .size) (c .before .if1 .taken))
-
-add-result : tie.Need-add-result
-add-result c = search needs
-
-sub-result : tie.Need-sub-result
-sub-result c = search needs
-
-part-result-start : tie.Need-part-result-start
-part-result-start c = search needs
 
 part-result-end : tie.Need-part-result-end
 part-result-end c = omega arith
@@ -38,12 +26,4 @@ returns-2 c =
 
 pub part-spec : {M : Type 1} → statement M
 part-spec =
-    tie.close
-    (tie.spec
-    slice-aggregate-result
-    returns
-    add-result
-    sub-result
-    part-result-start
-    part-result-end
-    returns-2)
+    tie.close (tie.spec (search needs) returns (search needs) (search needs) (search needs) part-result-end returns-2)

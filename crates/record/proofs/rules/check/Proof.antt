@@ -9,9 +9,6 @@ use Rattle.record.proofs.rules.check.Tie as tie
 returns : tie.Need-returns
 returns c = wrong-size (now (c .before .before .args .r)) (c .if1 .taken)
 
-broken-of-requires : tie.Need-broken-of-requires
-broken-of-requires c κs = search needs
-
 returns-2 : tie.Need-returns-2
 returns-2 c = all-hold (now (c .before .before .before .before .args .r)) (c .before .broken-of .result) (c .before .broken-of .ensures) (c .if2 .taken)
 
@@ -19,4 +16,5 @@ returns-3 : tie.Need-returns-3
 returns-3 c = one-fails (now (c .before .before .before .before .args .r)) (c .before .broken-of .result) (c .before .broken-of .ensures) (c .if2 .left)
 
 pub check-spec : {M : Type 1} → statement M
-check-spec = tie.close (tie.spec returns broken-of-requires returns-2 returns-3)
+check-spec =
+    tie.close (tie.spec returns (search needs) returns-2 returns-3)

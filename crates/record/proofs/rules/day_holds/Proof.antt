@@ -7,9 +7,6 @@ use borrow.Author.Needs.{needs}
 use Rattle.record.proofs.rules.day_holds.Statement.{statement}
 use Rattle.record.proofs.rules.day_holds.Tie as tie
 
-word16-requires : tie.Need-word16-requires
-word16-requires c κs = search needs
-
 returns : tie.Need-returns
 returns c =
     let w = c .before in
@@ -23,4 +20,5 @@ returns-2 c =
     rw (w .word16 .ensures) (day-test (now (d .args .r)) (d .pre) (omega (arith, w .word16 .ensures)))
 
 pub day-holds-spec : {M : Type 1} → statement M
-day-holds-spec = tie.close (tie.spec word16-requires returns returns-2)
+day-holds-spec =
+    tie.close (tie.spec (search needs) returns returns-2)

@@ -6,11 +6,9 @@ use borrow.Author.Needs.{needs}
 use Rattle.record.proofs.rules.millisecond_holds.Statement.{statement}
 use Rattle.record.proofs.rules.millisecond_holds.Tie as tie
 
-word32-requires : tie.Need-word32-requires
-word32-requires c κs = search needs
-
 returns : tie.Need-returns
 returns c = let d = c .before .before in rw (c .word32 .ensures) (millisecond-test (now (d .args .r)) (d .pre))
 
 pub millisecond-holds-spec : {M : Type 1} → statement M
-millisecond-holds-spec = tie.close (tie.spec word32-requires returns)
+millisecond-holds-spec =
+    tie.close (tie.spec (search needs) returns)

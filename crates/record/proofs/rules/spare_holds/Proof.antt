@@ -6,11 +6,9 @@ use borrow.Author.Needs.{needs}
 use Rattle.record.proofs.rules.spare_holds.Statement.{statement}
 use Rattle.record.proofs.rules.spare_holds.Tie as tie
 
-shared-slice-read-result : tie.Need-shared-slice-read-result
-shared-slice-read-result c = search needs
-
 returns : tie.Need-returns
 returns c = let d = c .before in spare-test (now (d .args .r)) (d .pre) (c .shared-slice-known .given 9 .fits)
 
 pub spare-holds-spec : {M : Type 1} → statement M
-spare-holds-spec = tie.close (tie.spec shared-slice-read-result returns)
+spare-holds-spec =
+    tie.close (tie.spec (search needs) returns)

@@ -6,11 +6,9 @@ use borrow.Author.Needs.{needs}
 use Rattle.record.proofs.rules.status_spare_holds.Statement.{statement}
 use Rattle.record.proofs.rules.status_spare_holds.Tie as tie
 
-word16-requires : tie.Need-word16-requires
-word16-requires c κs = search needs
-
 returns : tie.Need-returns
 returns c = let d = c .before .before in rw (c .word16 .ensures) (status-test (now (d .args .r)) (d .pre))
 
 pub status-spare-holds-spec : {M : Type 1} → statement M
-status-spare-holds-spec = tie.close (tie.spec word16-requires returns)
+status-spare-holds-spec =
+    tie.close (tie.spec (search needs) returns)

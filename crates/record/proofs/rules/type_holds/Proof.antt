@@ -6,33 +6,6 @@ use borrow.Author.Needs.{needs}
 use Rattle.record.proofs.rules.type_holds.Statement.{statement}
 use Rattle.record.proofs.rules.type_holds.Tie as tie
 
-sub-kind-of : tie.Need-sub-kind-of
-sub-kind-of c = search needs
-
-part-kind-of-start : tie.Need-part-kind-of-start
-part-kind-of-start c = search needs
-
-part-kind-of-end : tie.Need-part-kind-of-end
-part-kind-of-end c = search needs
-
-kind-of-requires : tie.Need-kind-of-requires
-kind-of-requires c κs = search needs
-
-enum-told : tie.Need-enum-told
-enum-told c = search needs
-
-enum-told-2 : tie.Need-enum-told-2
-enum-told-2 c = search needs
-
-enum-told-3 : tie.Need-enum-told-3
-enum-told-3 c = search needs
-
-enum-told-4 : tie.Need-enum-told-4
-enum-told-4 c = search needs
-
-enum-told-5 : tie.Need-enum-told-5
-enum-told-5 c = search needs
-
 returns : tie.Need-returns
 unfolding defined
 returns c =
@@ -71,18 +44,5 @@ returns-5 c =
 pub type-holds-spec : {M : Type 1} → statement M
 type-holds-spec =
     tie.close
-    (tie.spec
-    sub-kind-of
-    part-kind-of-start
-    part-kind-of-end
-    kind-of-requires
-    enum-told
-    enum-told-2
-    enum-told-3
-    enum-told-4
-    enum-told-5
-    returns
-    returns-2
-    returns-3
-    returns-4
-    returns-5)
+    (tie.spec (search needs) (search needs) (search needs) (search needs) (search needs) (search needs) (search needs)
+    (search needs) (search needs) returns returns-2 returns-3 returns-4 returns-5)

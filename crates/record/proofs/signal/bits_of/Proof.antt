@@ -7,18 +7,12 @@ use borrow.Author.Needs.{needs}
 use Rattle.record.proofs.signal.bits_of.Statement.{statement}
 use Rattle.record.proofs.signal.bits_of.Tie as tie
 
-enum-known-level : tie.Need-enum-known-level
-enum-known-level c = search needs
-
 float-to-bits-result : tie.Need-float-to-bits-result
 float-to-bits-result c = equal-number _ (c .if1 .taken)
 
 returns : tie.Need-returns
 unfolding bitsOf
 returns c = sym (ap bitsOf (c .before .before .level .given .1))
-
-enum-known-level-2 : tie.Need-enum-known-level-2
-enum-known-level-2 c = search needs
 
 returns-2 : tie.Need-returns-2
 unfolding bitsOf
@@ -30,5 +24,4 @@ returns-3 c = sym (ap bitsOf (c .before .level2 .given .1))
 
 pub bits-of-spec : {M : Type 1} → statement M
 bits-of-spec =
-    tie.close
-    (tie.spec enum-known-level float-to-bits-result returns enum-known-level-2 returns-2 returns-3)
+    tie.close (tie.spec (search needs) float-to-bits-result returns (search needs) returns-2 returns-3)

@@ -6,20 +6,11 @@ use borrow.Author.Needs.{needs}
 use Rattle.record.proofs.values.fields.Statement.{statement}
 use Rattle.record.proofs.values.fields.Tie as tie
 
-check-requires : tie.Need-check-requires
-check-requires c κs = search needs
-
-enum-told : tie.Need-enum-told
-enum-told c = search needs
-
 record-of-requires : tie.Need-record-of-requires
 record-of-requires c κs =
     let k = c .before .before in
     let r = now (k .before .before .args .r) in
     sized r (passed r (k .check .result) (k .check .ensures .is) (c .enum-told .given .1))
-
-enum-known-verdict : tie.Need-enum-known-verdict
-enum-known-verdict c = search needs
 
 returns : tie.Need-returns
 returns c =
@@ -36,5 +27,4 @@ returns-2 c =
 
 pub fields-spec : {M : Type 1} → statement M
 fields-spec =
-    tie.close
-    (tie.spec check-requires enum-told record-of-requires enum-known-verdict returns returns-2)
+    tie.close (tie.spec (search needs) (search needs) record-of-requires (search needs) returns returns-2)

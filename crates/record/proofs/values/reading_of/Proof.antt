@@ -8,18 +8,6 @@ use borrow.Author.Needs.{needs}
 use Rattle.record.proofs.values.reading_of.Statement.{statement}
 use Rattle.record.proofs.values.reading_of.Tie as tie
 
-word32-requires : tie.Need-word32-requires
-word32-requires c κs = search needs
-
-level-of-requires : tie.Need-level-of-requires
-level-of-requires c κs = search needs
-
-word32-requires-2 : tie.Need-word32-requires-2
-word32-requires-2 c κs = search needs
-
-level-of-requires-2 : tie.Need-level-of-requires-2
-level-of-requires-2 c κs = search needs
-
 returns : tie.Need-returns
 returns c =
     let level = c .before .before in
@@ -34,5 +22,4 @@ returns c =
 
 pub reading-of-spec : {M : Type 1} → statement M
 reading-of-spec =
-    tie.close
-    (tie.spec word32-requires level-of-requires word32-requires-2 level-of-requires-2 returns)
+    tie.close (tie.spec (search needs) (search needs) (search needs) (search needs) returns)

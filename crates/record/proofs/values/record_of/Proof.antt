@@ -10,54 +10,6 @@ use borrow.Author.Needs.{needs}
 use Rattle.record.proofs.values.record_of.Statement.{statement}
 use Rattle.record.proofs.values.record_of.Tie as tie
 
-sub-packet : tie.Need-sub-packet
-sub-packet c = search needs
-
-part-packet-start : tie.Need-part-packet-start
-part-packet-start c = search needs
-
-part-packet-end : tie.Need-part-packet-end
-part-packet-end c = search needs
-
-word16-requires : tie.Need-word16-requires
-word16-requires c κs = search needs
-
-shared-slice-read-code : tie.Need-shared-slice-read-code
-shared-slice-read-code c = search needs
-
-kind-of-requires : tie.Need-kind-of-requires
-kind-of-requires c κs = search needs
-
-shared-slice-read-second-burst : tie.Need-shared-slice-read-second-burst
-shared-slice-read-second-burst c = search needs
-
-second-burst-requires : tie.Need-second-burst-requires
-second-burst-requires c κs = search needs
-
-reading-of-requires : tie.Need-reading-of-requires
-reading-of-requires c κs = search needs
-
-word24-requires : tie.Need-word24-requires
-word24-requires c κs = search needs
-
-word16-requires-2 : tie.Need-word16-requires-2
-word16-requires-2 c κs = search needs
-
-word32-requires : tie.Need-word32-requires
-word32-requires c κs = search needs
-
-cast-t12 : tie.Need-cast-t12
-cast-t12 c = search needs
-
-cast-t21 : tie.Need-cast-t21
-cast-t21 c = search needs
-
-cast-t23 : tie.Need-cast-t23
-cast-t23 c = search needs
-
-word16-requires-3 : tie.Need-word16-requires-3
-word16-requires-3 c κs = search needs
-
 returns : tie.Need-returns
 unfolding recordOf
 returns c =
@@ -84,21 +36,6 @@ returns c =
 pub record-of-spec : {M : Type 1} → statement M
 record-of-spec =
     tie.close
-    (tie.spec
-    sub-packet
-    part-packet-start
-    part-packet-end
-    word16-requires
-    shared-slice-read-code
-    kind-of-requires
-    shared-slice-read-second-burst
-    second-burst-requires
-    reading-of-requires
-    word24-requires
-    word16-requires-2
-    word32-requires
-    cast-t12
-    cast-t21
-    cast-t23
-    word16-requires-3
-    returns)
+    (tie.spec (search needs) (search needs) (search needs) (search needs) (search needs) (search needs) (search needs)
+    (search needs) (search needs) (search needs) (search needs) (search needs) (search needs) (search needs)
+    (search needs) (search needs) returns)

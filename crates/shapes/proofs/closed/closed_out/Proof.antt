@@ -4,21 +4,6 @@ use borrow.Author.Needs.{needs}
 use Rattle.shapes.proofs.closed.closed_out.Statement.{statement}
 use Rattle.shapes.proofs.closed.closed_out.Tie as tie
 
-major-out-requires : tie.Need-major-out-requires
-major-out-requires c κs = search needs
-
-flag-of-requires : tie.Need-flag-of-requires
-flag-of-requires c κs = search needs
-
-flag-of-requires-2 : tie.Need-flag-of-requires-2
-flag-of-requires-2 c κs = search needs
-
-closed-snapshot-out-requires : tie.Need-closed-snapshot-out-requires
-closed-snapshot-out-requires c κs = search needs
-
-closed-snapshot-out-requires-2 : tie.Need-closed-snapshot-out-requires-2
-closed-snapshot-out-requires-2 c κs = search needs
-
 returns : tie.Need-returns
 returns c =
     let w = c .before .before in
@@ -37,4 +22,6 @@ returns c =
 
 pub closed-out-spec : {M : Type 1} → statement M
 closed-out-spec =
-    tie.close (tie.spec major-out-requires flag-of-requires flag-of-requires-2 closed-snapshot-out-requires closed-snapshot-out-requires-2 returns)
+    tie.close
+    (tie.spec (λ c κs. search needs) (λ c κs. search needs) (λ c κs. search needs) (λ c κs. search needs)
+    (λ c κs. search needs) returns)

@@ -6,15 +6,6 @@ use borrow.Author.Needs.{needs}
 use Rattle.shapes.proofs.closed.gap_number.Statement.{statement}
 use Rattle.shapes.proofs.closed.gap_number.Tie as tie
 
-enum-told : tie.Need-enum-told
-enum-told c = search needs
-
-enum-told-2 : tie.Need-enum-told-2
-enum-told-2 c = search needs
-
-enum-told-3 : tie.Need-enum-told-3
-enum-told-3 c = search needs
-
 returns : tie.Need-returns
 unfolding gapNumber
 returns c = sym (ap gapNumber (c .enum-told .given .1))
@@ -28,4 +19,5 @@ unfolding gapNumber
 returns-3 c = sym (ap gapNumber (c .enum-told3 .given .1))
 
 pub gap-number-spec : {M : Type 1} → statement M
-gap-number-spec = tie.close (tie.spec enum-told enum-told-2 enum-told-3 returns returns-2 returns-3)
+gap-number-spec =
+    tie.close (tie.spec (search needs) (search needs) (search needs) returns returns-2 returns-3)

@@ -6,12 +6,6 @@ use borrow.Author.Needs.{needs}
 use Rattle.shapes.proofs.fields.mark_of.Statement.{statement}
 use Rattle.shapes.proofs.fields.mark_of.Tie as tie
 
-enum-told : tie.Need-enum-told
-enum-told c = search needs
-
-enum-told-2 : tie.Need-enum-told-2
-enum-told-2 c = search needs
-
 returns : tie.Need-returns
 unfolding finiteMark
 returns c = sym (ap finiteMark (c .enum-told .given .1))
@@ -21,4 +15,5 @@ unfolding finiteMark
 returns-2 c = sym (ap finiteMark (c .enum-told2 .given .1))
 
 pub mark-of-spec : {M : Type 1} → statement M
-mark-of-spec = tie.close (tie.spec enum-told enum-told-2 returns returns-2)
+mark-of-spec =
+    tie.close (tie.spec (search needs) (search needs) returns returns-2)

@@ -5,15 +5,6 @@ use borrow.Author.Needs.{needs}
 use Rattle.shapes.proofs.states.state_in.Statement.{statement}
 use Rattle.shapes.proofs.states.state_in.Tie as tie
 
-accumulation-in-requires : tie.Need-accumulation-in-requires
-accumulation-in-requires c κs = search needs
-
-major-in-requires : tie.Need-major-in-requires
-major-in-requires c κs = search needs
-
-snapshot-in-requires : tie.Need-snapshot-in-requires
-snapshot-in-requires c κs = search needs
-
 returns : tie.Need-returns
 returns c =
     let k = c .before .before .before .before .args .c in
@@ -25,4 +16,5 @@ returns c =
     }
 
 pub state-in-spec : {M : Type 1} → statement M
-state-in-spec = tie.close (tie.spec accumulation-in-requires major-in-requires snapshot-in-requires returns)
+state-in-spec =
+    tie.close (tie.spec (λ c κs. search needs) (λ c κs. search needs) (λ c κs. search needs) returns)

@@ -4,18 +4,6 @@ use borrow.Author.Needs.{needs}
 use Rattle.shapes.proofs.states.state_out.Statement.{statement}
 use Rattle.shapes.proofs.states.state_out.Tie as tie
 
-flag-of-requires : tie.Need-flag-of-requires
-flag-of-requires c κs = search needs
-
-accumulation-out-requires : tie.Need-accumulation-out-requires
-accumulation-out-requires c κs = search needs
-
-major-out-requires : tie.Need-major-out-requires
-major-out-requires c κs = search needs
-
-snapshot-out-requires : tie.Need-snapshot-out-requires
-snapshot-out-requires c κs = search needs
-
 returns : tie.Need-returns
 returns c =
     let w = c .before .before .before in
@@ -32,4 +20,6 @@ returns c =
     }
 
 pub state-out-spec : {M : Type 1} → statement M
-state-out-spec = tie.close (tie.spec flag-of-requires accumulation-out-requires major-out-requires snapshot-out-requires returns)
+state-out-spec =
+    tie.close
+    (tie.spec (λ c κs. search needs) (λ c κs. search needs) (λ c κs. search needs) (λ c κs. search needs) returns)

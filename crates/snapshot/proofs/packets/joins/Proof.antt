@@ -5,12 +5,10 @@ use borrow.Author.Needs.{needs}
 use Rattle.snapshot.proofs.packets.joins.Statement.{statement}
 use Rattle.snapshot.proofs.packets.joins.Tie as tie
 
-cuts-requires : tie.Need-cuts-requires
-cuts-requires c κs = search needs
-
 returns : tie.Need-returns
 unfolding joins
 returns c = rw (c .cuts .ensures)
 
 pub joins-spec : {M : Type 1} → statement M
-joins-spec = tie.close (tie.spec cuts-requires returns)
+joins-spec =
+    tie.close (tie.spec (λ c κs. search needs) returns)

@@ -5,24 +5,6 @@ use borrow.Author.Needs.{needs}
 use Rattle.snapshot.proofs.soundness.is_sound.Statement.{statement}
 use Rattle.snapshot.proofs.soundness.is_sound.Tie as tie
 
-packets-among-requires : tie.Need-packets-among-requires
-packets-among-requires c κs = search needs
-
-last-highest-requires : tie.Need-last-highest-requires
-last-highest-requires c κs = search needs
-
-first-fits-requires : tie.Need-first-fits-requires
-first-fits-requires c κs = search needs
-
-none-open-requires : tie.Need-none-open-requires
-none-open-requires c κs = search needs
-
-cast-begun : tie.Need-cast-begun
-cast-begun c = search needs
-
-begun-requires : tie.Need-begun-requires
-begun-requires c κs = search needs
-
 returns : tie.Need-returns
 unfolding snapshotSound
 returns c =
@@ -40,11 +22,5 @@ returns c =
 pub is-sound-spec : {M : Type 1} → statement M
 is-sound-spec =
     tie.close
-    (tie.spec
-    packets-among-requires
-    last-highest-requires
-    first-fits-requires
-    none-open-requires
-    cast-begun
-    begun-requires
-    returns)
+    (tie.spec (λ c κs. search needs) (λ c κs. search needs) (λ c κs. search needs) (λ c κs. search needs)
+    (search needs) (λ c κs. search needs) returns)

@@ -22,16 +22,10 @@ returns-3 c =
     let s = c .before .before .before .before .before in
     type-above (s .before .args .s) (s .struct-known .given .1 .0 .fits) (c .before .before .before .before .if1 .left) (omega arith) (omega arith)
 
-cast-result : tie.Need-cast-result
-cast-result c = search needs
-
-shr-result : tie.Need-shr-result
-shr-result c = search needs
-
 returns-4 : tie.Need-returns-4
 unfolding lastHighest highest
 returns-4 c = search (needs, eq-eqb, ne-eqb, le-leb, lt-leb)
 
 pub last-highest-spec : {M : Type 1} → statement M
 last-highest-spec =
-    tie.close (tie.spec returns returns-2 returns-3 cast-result shr-result returns-4)
+    tie.close (tie.spec returns returns-2 returns-3 (search needs) (search needs) returns-4)

@@ -7,11 +7,9 @@ use Rattle.snapshot.proofs.steps.both.Tie as tie
 returns : tie.Need-returns
 returns c = rw (c .if1 .taken)
 
-unreported-requires : tie.Need-unreported-requires
-unreported-requires c κs = search needs
-
 returns-2 : tie.Need-returns-2
 returns-2 c = rw (c .before .if1 .left, c .unreported .ensures)
 
 pub both-spec : {M : Type 1} → statement M
-both-spec = tie.close (tie.spec returns unreported-requires returns-2)
+both-spec =
+    tie.close (tie.spec returns (λ c κs. search needs) returns-2)

@@ -10,23 +10,11 @@ use Rattle.snapshot.proofs.steps.extend.Tie as tie
 sub-t4 : tie.Need-sub-t4
 sub-t4 c = omega (arith, part-from _ (c .pre .0))
 
-cast-t5 : tie.Need-cast-t5
-cast-t5 c = search needs
-
-shl-t6 : tie.Need-shl-t6
-shl-t6 c = search needs
-
 add-t7 : tie.Need-add-t7
 add-t7 c =
     let p = c .before in
     let e = p .pre .0 in
     omega (arith, mark-shift _ e, mark-weight _ e, p .pre .1)
-
-unreported-requires : tie.Need-unreported-requires
-unreported-requires c κs = search needs
-
-laying-requires : tie.Need-laying-requires
-laying-requires c κs = search needs
 
 returns : tie.Need-returns
 unfolding marked
@@ -37,4 +25,5 @@ returns c =
 
 pub extend-spec : {M : Type 1} → statement M
 extend-spec =
-    tie.close (tie.spec sub-t4 cast-t5 shl-t6 add-t7 unreported-requires laying-requires returns)
+    tie.close
+    (tie.spec sub-t4 (search needs) (search needs) add-t7 (λ c κs. search needs) (λ c κs. search needs) returns)

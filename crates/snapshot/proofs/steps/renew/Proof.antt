@@ -9,22 +9,11 @@ use Rattle.snapshot.proofs.steps.renew.Tie as tie
 sub-t5 : tie.Need-sub-t5
 sub-t5 c = omega (arith, part-from _ (c .pre))
 
-cast-t6 : tie.Need-cast-t6
-cast-t6 c = search needs
-
-shl-t7 : tie.Need-shl-t7
-shl-t7 c = search needs
-
-report-requires : tie.Need-report-requires
-report-requires c κs = search needs
-
-laying-requires : tie.Need-laying-requires
-laying-requires c κs = search needs
-
 returns : tie.Need-returns
 returns c =
     let r = c .before .before in
     rw (mark-shift _ (r .before .pre), r .report .ensures, c .laying .ensures)
 
 pub renew-spec : {M : Type 1} → statement M
-renew-spec = tie.close (tie.spec sub-t5 cast-t6 shl-t7 report-requires laying-requires returns)
+renew-spec =
+    tie.close (tie.spec sub-t5 (search needs) (search needs) (λ c κs. search needs) (λ c κs. search needs) returns)

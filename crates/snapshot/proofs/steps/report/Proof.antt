@@ -5,9 +5,6 @@ use borrow.Author.Needs.{needs}
 use Rattle.snapshot.proofs.steps.report.Statement.{statement}
 use Rattle.snapshot.proofs.steps.report.Tie as tie
 
-unreported-requires : tie.Need-unreported-requires
-unreported-requires c κs = search needs
-
 returns : tie.Need-returns
 returns c = rw (eq-eqb _ 0 (c .before .if1 .taken)) (c .unreported .ensures)
 
@@ -15,4 +12,5 @@ returns-2 : tie.Need-returns-2
 returns-2 c = rw (ne-eqb _ 0 (c .if1 .left))
 
 pub report-spec : {M : Type 1} → statement M
-report-spec = tie.close (tie.spec unreported-requires returns returns-2)
+report-spec =
+    tie.close (tie.spec (λ c κs. search needs) returns returns-2)

@@ -11,30 +11,15 @@ use borrow.Author.Needs.{needs}
 use Rattle.snapshot.proofs.steps.step.Statement.{statement}
 use Rattle.snapshot.proofs.steps.step.Tie as tie
 
-passes-by-requires : tie.Need-passes-by-requires
-passes-by-requires c κs = search needs
-
-still-requires : tie.Need-still-requires
-still-requires c κs = search needs
-
 returns : tie.Need-returns
 returns c =
     let q = c .before in
     let a = q .before .before .args in
     c .still .ensures ∙ quiet-leaves (a .clock) (a .s) (a .d) (a .one) (a .two) (sym (q .before .passes-by .ensures) ∙ q .if1 .taken)
 
-still-requires-2 : tie.Need-still-requires-2
-still-requires-2 c κs = search needs
-
 returns-2 : tie.Need-returns-2
 unfolding steppedAt packetsAmong
 returns-2 c = rw (le-ltb _ _ (c .before .if2 .taken), c .still2 .ensures)
-
-follows-requires : tie.Need-follows-requires
-follows-requires c κs = search needs
-
-cut-if-requires : tie.Need-cut-if-requires
-cut-if-requires c κs = search needs
 
 step-packet-requires : tie.Need-step-packet-requires
 step-packet-requires c κs =
@@ -44,9 +29,6 @@ step-packet-requires-2 : tie.Need-step-packet-requires-2
 step-packet-requires-2 c κs =
     let k = c .before in
     rw (c .step-packet .ensures, k .cut-if .ensures) (next-below _ _ _ (omega arith))
-
-both-requires : tie.Need-both-requires
-both-requires c κs = search needs
 
 returns-3 : tie.Need-returns-3
 unfolding steppedAt packetsAmong stepSnapshot
@@ -66,15 +48,6 @@ returns-3 c =
 pub step-spec : {M : Type 1} → statement M
 step-spec =
     tie.close
-    (tie.spec
-    passes-by-requires
-    still-requires
-    returns
-    still-requires-2
-    returns-2
-    follows-requires
-    cut-if-requires
-    step-packet-requires
-    step-packet-requires-2
-    both-requires
+    (tie.spec (λ c κs. search needs) (λ c κs. search needs) returns (λ c κs. search needs) returns-2
+    (λ c κs. search needs) (λ c κs. search needs) step-packet-requires step-packet-requires-2 (λ c κs. search needs)
     returns-3)

@@ -7,18 +7,9 @@ use borrow.Author.Needs.{needs}
 use Rattle.snapshot.proofs.steps.step_packet.Statement.{statement}
 use Rattle.snapshot.proofs.steps.step_packet.Tie as tie
 
-is-part-requires : tie.Need-is-part-requires
-is-part-requires c κs = search needs
-
-pass-requires : tie.Need-pass-requires
-pass-requires c κs = search needs
-
 returns : tie.Need-returns
 unfolding stepPacket
 returns c = rw (fails (c .before .before .is-part .ensures) (c .before .if1 .taken)) (c .pass .ensures)
-
-joins-requires : tie.Need-joins-requires
-joins-requires c κs = search needs
 
 extend-requires : tie.Need-extend-requires
 extend-requires c κs =
@@ -48,12 +39,5 @@ returns-3 c =
 pub step-packet-spec : {M : Type 1} → statement M
 step-packet-spec =
     tie.close
-    (tie.spec
-    is-part-requires
-    pass-requires
-    returns
-    joins-requires
-    extend-requires
-    returns-2
-    renew-requires
-    returns-3)
+    (tie.spec (λ c κs. search needs) (λ c κs. search needs) returns (λ c κs. search needs) extend-requires returns-2
+    renew-requires returns-3)

@@ -4,24 +4,6 @@ use borrow.Author.Needs.{needs}
 use Rattle.snapshot.proofs.steps.still.Statement.{statement}
 use Rattle.snapshot.proofs.steps.still.Tie as tie
 
-unreported-requires : tie.Need-unreported-requires
-unreported-requires c κs = search needs
-
-unreported-requires-2 : tie.Need-unreported-requires-2
-unreported-requires-2 c κs = search needs
-
-no-work-requires : tie.Need-no-work-requires
-no-work-requires c κs = search needs
-
-no-packet-work-requires : tie.Need-no-packet-work-requires
-no-packet-work-requires c κs = search needs
-
-no-work-requires-2 : tie.Need-no-work-requires-2
-no-work-requires-2 c κs = search needs
-
-no-packet-work-requires-2 : tie.Need-no-packet-work-requires-2
-no-packet-work-requires-2 c κs = search needs
-
 returns : tie.Need-returns
 returns c =
     let w = c .before in
@@ -40,11 +22,5 @@ returns c =
 pub still-spec : {M : Type 1} → statement M
 still-spec =
     tie.close
-    (tie.spec
-    unreported-requires
-    unreported-requires-2
-    no-work-requires
-    no-packet-work-requires
-    no-work-requires-2
-    no-packet-work-requires-2
-    returns)
+    (tie.spec (λ c κs. search needs) (λ c κs. search needs) (λ c κs. search needs) (λ c κs. search needs)
+    (λ c κs. search needs) (λ c κs. search needs) returns)

@@ -8,16 +8,11 @@ use borrow.Author.Needs.{needs}
 use Rattle.snapshots.proofs.questions.count_at.Statement.{statement}
 use Rattle.snapshots.proofs.questions.count_at.Tie as tie
 
-byte-requires : tie.Need-byte-requires
-byte-requires c κs = search needs
-
-meaning-of-requires : tie.Need-meaning-of-requires
-meaning-of-requires c κs = search needs
-
 returns : tie.Need-returns
 returns c =
     let d = c .before .before .before .args .divided in
     c .meaning-of .ensures ∙ ap (λ (r : Raw). meaning r (Known d)) (c .before .byte .ensures .is)
 
 pub count-at-spec : {M : Type 1} → statement M
-count-at-spec = tie.close (tie.spec byte-requires meaning-of-requires returns)
+count-at-spec =
+    tie.close (tie.spec (λ c κs. search needs) (λ c κs. search needs) returns)

@@ -10,13 +10,11 @@ use borrow.Author.Needs.{needs}
 use Rattle.snapshots.proofs.questions.rate.Statement.{statement}
 use Rattle.snapshots.proofs.questions.rate.Tie as tie
 
-count-at-requires : tie.Need-count-at-requires
-count-at-requires c κs = search needs
-
 returns : tie.Need-returns
 returns c =
     let a = c .before .before .args in
     told (now (a .snapshot)) (a .held) 3 By16 true (λ t. omega arith) 3 (c .count-at .result) refl (c .count-at .ensures)
 
 pub rate-spec : {M : Type 1} → statement M
-rate-spec = tie.close (tie.spec count-at-requires returns)
+rate-spec =
+    tie.close (tie.spec (λ c κs. search needs) returns)

@@ -10,13 +10,11 @@ use borrow.Author.Needs.{needs}
 use Rattle.snapshots.proofs.questions.total.Statement.{statement}
 use Rattle.snapshots.proofs.questions.total.Tie as tie
 
-count-at-requires : tie.Need-count-at-requires
-count-at-requires c κs = search needs
-
 returns : tie.Need-returns
 returns c =
     let a = c .before .before .args in
     told (now (a .snapshot)) (a .held) 2 By16 true (λ t. omega arith) 2 (c .count-at .result) refl (c .count-at .ensures)
 
 pub total-spec : {M : Type 1} → statement M
-total-spec = tie.close (tie.spec count-at-requires returns)
+total-spec =
+    tie.close (tie.spec (λ c κs. search needs) returns)

@@ -24,20 +24,11 @@ returns-3 c =
     let a = c .before .before .before .args in
     no-place snapshotSize packets snapshotSize (now (a .snapshot)) (a .held) (a .place) _ _ (c .before .before .if1 .left) (omega arith) (omega arith)
 
-cast-if4 : tie.Need-cast-if4
-cast-if4 c = search needs
-
-shr-if4 : tie.Need-shr-if4
-shr-if4 c = search needs
-
 returns-4 : tie.Need-returns-4
 returns-4 c =
     let a = c .before .before .before .before .args in
     not-held snapshotSize packets snapshotSize (now (a .snapshot)) (a .held) (a .place) _ _ (omega arith) (omega arith) (omega arith)
     (ne-eqb _ _ (c .if4 .taken))
-
-shared-slice-read-t10 : tie.Need-shared-slice-read-t10
-shared-slice-read-t10 c = search needs
 
 returns-5 : tie.Need-returns-5
 returns-5 c =
@@ -47,13 +38,4 @@ returns-5 c =
 
 pub byte-spec : {M : Type 1} → statement M
 byte-spec =
-    tie.close
-    (tie.spec
-    returns
-    returns-2
-    returns-3
-    cast-if4
-    shr-if4
-    returns-4
-    shared-slice-read-t10
-    returns-5)
+    tie.close (tie.spec returns returns-2 returns-3 (search needs) (search needs) returns-4 (search needs) returns-5)

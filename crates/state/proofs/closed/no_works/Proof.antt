@@ -4,27 +4,6 @@ use borrow.Author.Needs.{needs}
 use Rattle.state.proofs.closed.no_works.Statement.{statement}
 use Rattle.state.proofs.closed.no_works.Tie as tie
 
-no-work-requires : tie.Need-no-work-requires
-no-work-requires c κs = search needs
-
-no-slot-work-requires : tie.Need-no-slot-work-requires
-no-slot-work-requires c κs = search needs
-
-no-work-requires-2 : tie.Need-no-work-requires-2
-no-work-requires-2 c κs = search needs
-
-no-work-requires-3 : tie.Need-no-work-requires-3
-no-work-requires-3 c κs = search needs
-
-no-packet-work-requires : tie.Need-no-packet-work-requires
-no-packet-work-requires c κs = search needs
-
-no-work-requires-4 : tie.Need-no-work-requires-4
-no-work-requires-4 c κs = search needs
-
-no-packet-work-requires-2 : tie.Need-no-packet-work-requires-2
-no-packet-work-requires-2 c κs = search needs
-
 returns : tie.Need-returns
 returns c =
     let w = c .before in
@@ -43,12 +22,5 @@ returns c =
 pub no-works-spec : {M : Type 1} → statement M
 no-works-spec =
     tie.close
-    (tie.spec
-    no-work-requires
-    no-slot-work-requires
-    no-work-requires-2
-    no-work-requires-3
-    no-packet-work-requires
-    no-work-requires-4
-    no-packet-work-requires-2
-    returns)
+    (tie.spec (λ c κs. search needs) (λ c κs. search needs) (λ c κs. search needs) (λ c κs. search needs)
+    (λ c κs. search needs) (λ c κs. search needs) (λ c κs. search needs) returns)

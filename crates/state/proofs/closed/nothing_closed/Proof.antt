@@ -4,18 +4,6 @@ use borrow.Author.Needs.{needs}
 use Rattle.state.proofs.closed.nothing_closed.Statement.{statement}
 use Rattle.state.proofs.closed.nothing_closed.Tie as tie
 
-unreported-requires : tie.Need-unreported-requires
-unreported-requires c κs = search needs
-
-unreported-requires-2 : tie.Need-unreported-requires-2
-unreported-requires-2 c κs = search needs
-
-unreported-requires-3 : tie.Need-unreported-requires-3
-unreported-requires-3 c κs = search needs
-
-unreported-requires-4 : tie.Need-unreported-requires-4
-unreported-requires-4 c κs = search needs
-
 returns : tie.Need-returns
 returns c =
     let one = c .before in
@@ -24,9 +12,4 @@ returns c =
 pub nothing-closed-spec : {M : Type 1} → statement M
 nothing-closed-spec =
     tie.close
-    (tie.spec
-    unreported-requires
-    unreported-requires-2
-    unreported-requires-3
-    unreported-requires-4
-    returns)
+    (tie.spec (λ c κs. search needs) (λ c κs. search needs) (λ c κs. search needs) (λ c κs. search needs) returns)

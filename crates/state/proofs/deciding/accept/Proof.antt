@@ -6,27 +6,6 @@ use borrow.Author.Needs.{needs}
 use Rattle.state.proofs.deciding.accept.Statement.{statement}
 use Rattle.state.proofs.deciding.accept.Tie as tie
 
-carries-science-requires : tie.Need-carries-science-requires
-carries-science-requires c κs = search needs
-
-carries-mag-requires : tie.Need-carries-mag-requires
-carries-mag-requires c κs = search needs
-
-step-requires : tie.Need-step-requires
-step-requires c κs = search needs
-
-step-requires-2 : tie.Need-step-requires-2
-step-requires-2 c κs = search needs
-
-first-burst-requires : tie.Need-first-burst-requires
-first-burst-requires c κs = search needs
-
-step-requires-3 : tie.Need-step-requires-3
-step-requires-3 c κs = search needs
-
-accepted-requires : tie.Need-accepted-requires
-accepted-requires c κs = search needs
-
 returns : tie.Need-returns
 unfolding acceptance
 returns c =
@@ -52,12 +31,5 @@ returns c =
 pub accept-spec : {M : Type 1} → statement M
 accept-spec =
     tie.close
-    (tie.spec
-    carries-science-requires
-    carries-mag-requires
-    step-requires
-    step-requires-2
-    first-burst-requires
-    step-requires-3
-    accepted-requires
-    returns)
+    (tie.spec (λ c κs. search needs) (λ c κs. search needs) (λ c κs. search needs) (λ c κs. search needs)
+    (λ c κs. search needs) (λ c κs. search needs) (λ c κs. search needs) returns)

@@ -8,12 +8,6 @@ use borrow.Author.Needs.{needs}
 use Rattle.state.proofs.deciding.decide.Statement.{statement}
 use Rattle.state.proofs.deciding.decide.Tie as tie
 
-from-fields-requires : tie.Need-from-fields-requires
-from-fields-requires c κs = search needs
-
-decide-on-requires : tie.Need-decide-on-requires
-decide-on-requires c κs = search needs
-
 returns : tie.Need-returns
 returns c =
     let f = c .before in
@@ -21,4 +15,5 @@ returns c =
     subst (λ (s : State). DecidedIs s (a .sized) (now (a .r)) (c .decide-on .result)) (f .from-fields .ensures) (c .decide-on .ensures)
 
 pub decide-spec : {M : Type 1} → statement M
-decide-spec = tie.close (tie.spec from-fields-requires decide-on-requires returns)
+decide-spec =
+    tie.close (tie.spec (λ c κs. search needs) (λ c κs. search needs) returns)

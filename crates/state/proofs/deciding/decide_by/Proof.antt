@@ -10,30 +10,12 @@ use borrow.Author.Needs.{needs}
 use Rattle.state.proofs.deciding.decide_by.Statement.{statement}
 use Rattle.state.proofs.deciding.decide_by.Tie as tie
 
-arrival-of-requires : tie.Need-arrival-of-requires
-arrival-of-requires c κs = search needs
-
-enum-known-arrival : tie.Need-enum-known-arrival
-enum-known-arrival c = search needs
-
 accept-requires : tie.Need-accept-requires
 accept-requires c κs =
     let k = c .before .before .before in
     let h = k .before in
     let t = arrives (h .args .state .clock) (h .args .f) _ (sym (k .arrival-of .ensures) ∙ c .before .arrival .given .1) in
     ready (h .args .state) (h .args .f) _ (h .pre .0) (t .0) (t .2) (h .pre .1)
-
-enum-told : tie.Need-enum-told
-enum-told c = search needs
-
-refused-requires : tie.Need-refused-requires
-refused-requires c κs = search needs
-
-enum-told-2 : tie.Need-enum-told-2
-enum-told-2 c = search needs
-
-refused-requires-2 : tie.Need-refused-requires-2
-refused-requires-2 c κs = search needs
 
 returns : tie.Need-returns
 unfolding decidedBy
@@ -61,14 +43,5 @@ returns-3 c =
 pub decide-by-spec : {M : Type 1} → statement M
 decide-by-spec =
     tie.close
-    (tie.spec
-    arrival-of-requires
-    enum-known-arrival
-    accept-requires
-    enum-told
-    refused-requires
-    enum-told-2
-    refused-requires-2
-    returns
-    returns-2
-    returns-3)
+    (tie.spec (λ c κs. search needs) (search needs) accept-requires (search needs) (λ c κs. search needs)
+    (search needs) (λ c κs. search needs) returns returns-2 returns-3)

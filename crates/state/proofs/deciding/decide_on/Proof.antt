@@ -13,19 +13,10 @@ use borrow.Author.Needs.{needs}
 use Rattle.state.proofs.deciding.decide_on.Statement.{statement}
 use Rattle.state.proofs.deciding.decide_on.Tie as tie
 
-refused-requires : tie.Need-refused-requires
-refused-requires c κs = search needs
-
 returns : tie.Need-returns
 returns c =
     let a = c .before .before .before .args in
     unsound (a .state) (a .sized) (now (a .r)) _ (off (a .sized) (sound (a .state)) (c .before .if1 .taken)) (c .refused .ensures)
-
-is-sound-requires : tie.Need-is-sound-requires
-is-sound-requires c κs = search needs
-
-refused-requires-2 : tie.Need-refused-requires-2
-refused-requires-2 c κs = search needs
 
 returns-2 : tie.Need-returns-2
 returns-2 c =
@@ -33,12 +24,6 @@ returns-2 c =
     let a = l .before .before .before .args in
     unsound (a .state) (a .sized) (now (a .r)) _
     (rw (not-false (a .sized) (l .before .if1 .left), fails (l .is-sound .ensures) (c .before .if2 .taken))) (c .refused2 .ensures)
-
-fields-requires : tie.Need-fields-requires
-fields-requires c κs = search needs
-
-enum-known-contents : tie.Need-enum-known-contents
-enum-known-contents c = search needs
 
 range-in-requires : tie.Need-range-in-requires
 range-in-requires c κs =
@@ -53,12 +38,6 @@ decide-by-requires c κs =
     let r = now (l .before .before .before .args .r) in
     let t = fields-told r (f .fields .result) (f .fields .ensures) _ (c .before .before .contents .given .1) in
     (held (l .is-sound .ensures) (f .before .if2 .left), rw (t .1) (type-below r))
-
-enum-known-contents-2 : tie.Need-enum-known-contents-2
-enum-known-contents-2 c = search needs
-
-refused-requires-3 : tie.Need-refused-requires-3
-refused-requires-3 c κs = search needs
 
 returns-3 : tie.Need-returns-3
 returns-3 c =
@@ -83,17 +62,6 @@ returns-4 c =
 pub decide-on-spec : {M : Type 1} → statement M
 decide-on-spec =
     tie.close
-    (tie.spec
-    refused-requires
-    returns
-    is-sound-requires
-    refused-requires-2
-    returns-2
-    fields-requires
-    enum-known-contents
-    range-in-requires
-    decide-by-requires
-    enum-known-contents-2
-    refused-requires-3
-    returns-3
-    returns-4)
+    (tie.spec (λ c κs. search needs) returns (λ c κs. search needs) (λ c κs. search needs) returns-2
+    (λ c κs. search needs) (search needs) range-in-requires decide-by-requires (search needs) (λ c κs. search needs)
+    returns-3 returns-4)

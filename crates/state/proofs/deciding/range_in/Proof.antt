@@ -5,24 +5,6 @@ use Rattle.state.proofs.Decisions.{mag-is, range-so, range-always}
 use borrow.Author.Needs.{needs}
 use Rattle.state.proofs.deciding.range_in.Statement.{statement}
 use Rattle.state.proofs.deciding.range_in.Tie as tie
-use Rattle.mag.proofs.range_of.Reads as range-of-reads
-use Rattle.record.proofs.mag_bytes.Reads as mag-bytes-reads
-use Rattle.record.proofs.packet_in.Reads as packet-in-reads
-
-packet-in-requires : tie.Need-packet-in-requires
-packet-in-requires c κs = search needs
-
-mag-bytes-requires : tie.Need-mag-bytes-requires
-mag-bytes-requires c κs = search needs
-
-range-of-requires : tie.Need-range-of-requires
-range-of-requires c κs = search needs
-
-enum-known-range : tie.Need-enum-known-range
-enum-known-range c = search needs
-
-enum-told : tie.Need-enum-told
-enum-told c = search needs
 
 returns : tie.Need-returns
 returns c =
@@ -43,11 +25,5 @@ returns-2 c =
 pub range-in-spec : {M : Type 1} → statement M
 range-in-spec =
     tie.close
-    (tie.spec
-    packet-in-requires
-    mag-bytes-requires
-    range-of-requires
-    enum-known-range
-    enum-told
-    returns
-    returns-2)
+    (tie.spec (λ c κs. search needs) (λ c κs. search needs) (λ c κs. search needs) (search needs) (search needs)
+    returns returns-2)
