@@ -1,3 +1,3 @@
-/* A program of a proved body: the status that the body answers is the program's. tools/build names the body. */
+/* A program of a proved function, which tools/build names BODY: what it answers is the program's status. */
 unsigned char BODY(void);
 int main(void) { return BODY(); }

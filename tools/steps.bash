@@ -41,15 +41,20 @@ tell_step() {
     echo "$title: $step of $steps: $1" >&2
 }
 
+end_guarded() {
+    [ -z "$guarded" ] || kill -TERM -- "-$guarded" 2>/dev/null || true
+}
+
 # guarded COMMAND...: a signal that ends this script ends the command too, with all that it started
 guarded() {
     local status=0
+    guarded=
+    trap 'end_guarded; exit 130' INT
+    trap 'end_guarded; exit 143' TERM HUP
     set -m
     "$@" </dev/null 9>&- &
     guarded=$!
     set +m
-    trap 'kill -TERM -- "-$guarded" 2>/dev/null; exit 130' INT
-    trap 'kill -TERM -- "-$guarded" 2>/dev/null; exit 143' TERM HUP
     wait "$guarded" || status=$?
     trap - INT TERM HUP
     return $status

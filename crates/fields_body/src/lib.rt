@@ -165,9 +165,8 @@ subcom word, signal level and quality, each with its 32 bits.
     )
 }
 
-// Answers its status (0 good, 1 not all could be read or written, 2 an unknown option); one line of C hands it to the system.
-#[no_mangle]
-pub extern "C" fn fields_main() -> u8
+// Runs the program and answers its status: 0 good, 1 not all could be read or written, 2 an unknown option.
+pub fn perform() -> u8
     ensures { λ r. ⌜ r ≤ 2 ⌝ }
 {
     let start = begin();

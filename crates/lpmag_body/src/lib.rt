@@ -139,9 +139,8 @@ fn list(from_files: bool, verbose: bool) -> bool {
     )
 }
 
-// Answers its status (0 good, 1 not all could be read or written, 2 an unknown option); one line of C hands it to the system.
-#[no_mangle]
-pub extern "C" fn lpmag_main() -> u8
+// Runs the program and answers its status: 0 good, 1 not all could be read or written, 2 an unknown option.
+pub fn perform() -> u8
     ensures { λ r. ⌜ r ≤ 2 ⌝ }
 {
     let start = said::begin();

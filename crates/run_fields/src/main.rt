@@ -1,5 +1,5 @@
-// The program fields as rt runs it on stored input. Its status is lost here: the program for users is fields_body linked with a line
-// of C (tools/program).
+// The program fields as rt runs it on stored input. Its status is lost here: the program for users is fields_main linked with a line
+// of C (tools/build).
 fn main() {
-    fields_body::fields_main();
+    fields_main::fields_main();
 }
