@@ -80,7 +80,17 @@ def spell(text, new):
     return re.sub(IDENT, one, text)
 
 
+def without_others(text, new):
+    """less the names that the file takes from a library that is none of the repository's"""
+    others = set()
+    for module, names in re.findall(r"^use ([^\s{]+?)\.\{([^}]*)\}", text, re.M):
+        if not (module.startswith("Rattle.") and os.path.isdir("crates/" + module.split(".")[1])):
+            others.update(n.strip() for n in names.split(","))
+    return {n: to for n, to in new.items() if n not in others}
+
+
 def in_antt(text, new):
+    new = without_others(text, new)
     out = []
     for line in text.split("\n"):
         code, mark, comment = line.partition("--")

@@ -8,7 +8,7 @@ use native.Mathlib.Nat.{add-zero, mul_comm}
 use native.Mathlib.Omega.{arith}
 use lib.Dec.{eqb, leb}
 use lib.ListN.{length, get_or}
-use borrow.Author.Tests.{eqb-true, eqb-false, leb-true, le-leb, lt-leb, not_true, not-false}
+use borrow.Author.Tests.{eqb-true, eqb-false, leb-true, le-leb, lt-leb, not-true, not-false}
 use Rattle.prelude.proofs.Conds.{cases}
 use Rattle.bits.specs.Numbers.{Order, least, most, join, number, twelve, twelve_in}
 use Rattle.bits.specs.Twelve.{Bytes, front, back, from_bytes, TwelveLaw}
@@ -68,7 +68,7 @@ module _ (b : List ℕ) (k : ℕ) (t : Bool) (told : t ≡ leb (12 * k + 12) (8 
   room h = leb-true (12 * k + 12) (8 * length b) (sym told ∙ not-false t h)
 
   pub no_parts : not t ≡ true → PartsOf b k 0 0
-  no_parts h = let e = sym told ∙ not_true t h in record { whole_is = rw e; shared_is = rw e; whole_byte = omega arith; shared_byte = omega arith }
+  no_parts h = let e = sym told ∙ not-true t h in record { whole_is = rw e; shared_is = rw e; whole_byte = omega arith; shared_byte = omega arith }
 
   pub both_parts : not t ≡ false → (x y : ℕ) → x ≡ get_or b (k / 2 * 3 + k % 2 * 2) 0 → x < 256 → y ≡ get_or b (k / 2 * 3 + 1) 0 → y < 256 → PartsOf b k x y
   both_parts h x y e l f m = let i = sym told ∙ not-false t h in record { whole_is = rw i e; shared_is = rw i f; whole_byte = l; shared_byte = m }

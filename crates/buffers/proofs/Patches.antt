@@ -9,7 +9,7 @@ use native.Mathlib.Omega.{arith}
 use lib.Dec.{leb}
 use lib.ListN.{length, get_or, take, drop, length-append, length-drop, take-append-drop, get_or-append}
 use lib.Seq.{length-take-le, take_at, drop_at, take-add, take-take, drop-append-le, drop-drop, get_or-append-add, get_or-take, get_or-drop}
-use borrow.Author.Tests.{le-leb, lt-leb, leb-true, leb-false, eq-eqb, not_true, not-false}
+use borrow.Author.Tests.{le-leb, lt-leb, leb-true, leb-false, eq-eqb, not-true, not-false}
 use Rattle.prelude.proofs.Conds.{cases}
 use Rattle.buffers.specs.Copying.{copied}
 use Rattle.buffers.specs.Laying.{patch, has_room, laid}
@@ -20,7 +20,7 @@ module _ {ℓ} {A : Type ℓ} where
   has_room_lem d at n b e h = leb-true (at + n) (length d) (sym e ∙ not-false b h)
 
   pub no_room : (d : List A) (at n : ℕ) (b : Bool) → b ≡ has_room (length d) at n → not b ≡ true → length d < at + n
-  no_room d at n b e h = leb-false (at + n) (length d) (sym e ∙ not_true b h)
+  no_room d at n b e h = leb-false (at + n) (length d) (sym e ∙ not-true b h)
 
   -- inside, and not
   pub laid_in : (s d : List A) (at : ℕ) → at + length s ≤ length d → laid s d at ≡ patch d at s

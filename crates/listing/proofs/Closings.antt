@@ -9,7 +9,7 @@ use native.Mathlib.Omega.{arith}
 use lib.Count.{ones}
 use lib.Dec.{eqb, ltb}
 use lib.ListN.{length, length-append}
-use borrow.Author.Tests.{lt-ltb, le-ltb, eqb-false, not_true, not-false}
+use borrow.Author.Tests.{lt-ltb, le-ltb, eqb-false, not-true, not-false}
 use Rattle.clock.proofs.Laws.{last_below}
 use Rattle.accumulation.specs.declared.AccumulationReport.{AccumulationReport}
 use Rattle.major.specs.Major.{major_open, major_reported}
@@ -84,10 +84,10 @@ module _ (d : List ℕ) (at : ℕ) where
   nothing text e h = rw e (put_none d at h)
 
   pub gathered_none : (closed : Bool) (line : List ℕ) → at ≤ length d → not closed ≡ true → Put d at (cond closed line []) d at
-  gathered_none closed line h e = nothing (cond closed line []) (rw (not_true closed e) refl) h
+  gathered_none closed line h e = nothing (cond closed line []) (rw (not-true closed e) refl) h
 
   pub major_none : (r : MajorReport) → at ≤ length d → not r.closed ≡ true → Put d at (major_line r) d at
-  major_none r h e = nothing (major_line r) (major_open_lem r (not_true r.closed e)) h
+  major_none r h e = nothing (major_line r) (major_open_lem r (not-true r.closed e)) h
 
   pub major_far : (r : MajorReport) → at ≤ length d → not r.closed ≡ false → 2 ^ 60 ≤ r.frame.number → Put d at (major_line r) d at
   major_far r h e l = nothing (major_line r) (major_past r (not-false r.closed e) (omega arith)) h
@@ -135,7 +135,7 @@ unfolding major_line
 always_listed s h o =
     let f = facts s h in
     let m = s.major in
-    let z = eqb-false m.slots 0 (not_true (eqb m.slots 0) o) in
+    let z = eqb-false m.slots 0 (not-true (eqb m.slots 0) o) in
     let n = (current_slot s.clock m (slots_of s.clock m f.major).current z).0 in
     let l = last_below s.clock f.clock in
     let b : 16 * m.number < 2 ^ 64 = omega arith in

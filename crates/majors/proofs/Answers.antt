@@ -10,7 +10,7 @@ use lib.Dec.{eqb, ltb}
 use lib.Ieee.{Float}
 use lib.IntN.{ℤ}
 use lib.ListN.{length, get_or}
-use borrow.Author.Tests.{eq-eqb, ne_eqb, lt-ltb, le-ltb, eqb-true, ltb-true, not_true, not-false}
+use borrow.Author.Tests.{eq-eqb, ne_eqb, lt-ltb, le-ltb, eqb-true, ltb-true, not-true, not-false}
 use Rattle.prelude.proofs.Conds.{cases, two}
 use Rattle.mag.specs.Samples.{samples_size}
 use Rattle.mag.specs.Field.{is_sample, has_field, field_given, FieldIs, Answered}
@@ -89,12 +89,12 @@ module _ (m : Major) (samples : List ℤ) (s k : ℕ) where
 
   pub sample_nowhere : (b : Bool) → b ≡ is_place samples s k → not b ≡ true → SampleIs m samples s k sample.NoSuchPlace
   unfolding has_stored
-  sample_nowhere b e h = no_sample (rw (sym e ∙ not_true b h))
+  sample_nowhere b e h = no_sample (rw (sym e ∙ not-true b h))
 
   module _ (b : Bool) (e : b ≡ is_place samples s k) (h : not b ≡ false) (t : Bool) (q : t ≡ is_sample (stored samples s k)) where
     pub sample_outside : not t ≡ true → SampleIs m samples s k sample.NoSuchPlace
     unfolding has_stored
-    sample_outside l = no_sample (rw (sym e ∙ not-false b h, sym q ∙ not_true t l))
+    sample_outside l = no_sample (rw (sym e ∙ not-false b h, sym q ∙ not-true t l))
 
     has_sample_lem : not t ≡ false → has_stored samples s k ≡ true
     unfolding has_stored
@@ -167,7 +167,7 @@ module _ (m : Major) (samples : List ℤ) (s k : ℕ) where
 
   pub nominal_nowhere : (b : Bool) → b ≡ is_place samples s k → not b ≡ true → NominalIs m samples s k nominal.NoSuchPlace
   unfolding has_nominal
-  nominal_nowhere b e h = no_nominal (rw (sym e ∙ not_true b h))
+  nominal_nowhere b e h = no_nominal (rw (sym e ∙ not-true b h))
 
   module _ (b : Bool) (p : b ≡ is_place samples s k) (h : not b ≡ false) (f : Field) (a : Answered (stored samples s k) (get_or m.ranges s 0) f) where
     outside : f ≡ field.NoSuchPlace → has_field (stored samples s k) (get_or m.ranges s 0) ≡ false

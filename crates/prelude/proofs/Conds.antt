@@ -2,7 +2,7 @@
 -- Assumes nothing.
 use mathlib.Core.Path.{◌≡◌, refl, sym, ◌∙◌}
 use mathlib.Core.Bool.{Bool, true, false, cond, not, ◌&&◌, ◌||◌, false≢true}
-use borrow.Author.Tests.{not_true, not-false}
+use borrow.Author.Tests.{not-true, not-false}
 
 pub cond_of {ℓ ℓ'} : {A : Type ℓ} {B : Type ℓ'} (f : A → B) (t : Bool) (a b : A) → f (cond t a b) ≡ cond t (f a) (f b)
 cond_of f true a b = refl
@@ -27,4 +27,4 @@ pub held : {b t : Bool} → b ≡ t → not b ≡ false → t ≡ true
 held {b} e h = sym e ∙ not-false b h
 
 pub fails : {b t : Bool} → b ≡ t → not b ≡ true → t ≡ false
-fails {b} e h = sym e ∙ not_true b h
+fails {b} e h = sym e ∙ not-true b h

@@ -1,7 +1,7 @@
 -- What the promises of step and finish say, in the words of the demands and of 01.
 -- Assumes nothing.
 use mathlib.Core.Path.{◌≡◌, refl, sym, ap, ◌∙◌}
-use mathlib.Core.Bool.{Bool, true, false, not, cond, ◌&&◌, ◌||◌, and_false, or-false}
+use mathlib.Core.Bool.{Bool, true, false, not, cond, ◌&&◌, ◌||◌, and-false, or-false}
 use mathlib.Core.List.{List, []}
 use Prim.Native.Nat.{ℕ, ◌<◌}
 use native.Mathlib.Omega.{arith}
@@ -170,7 +170,7 @@ module _ (s : State) (b b' : Buffers) where
     pub finish_second : b'.second_snapshot ≡ b.second_snapshot
     finish_second =
         let copies = (ended_of s (sized b)).works.one.work.copies in
-        ap (λ y. y.second_snapshot) is.left ∙ rw ((end_clears s (sized b)).two_none, and_false copies)
+        ap (λ y. y.second_snapshot) is.left ∙ rw ((end_clears s (sized b)).two_none, and-false copies)
 
     -- the open buffers are set to 0 where they closed
     pub finish_open_snapshot : b'.open_snapshot ≡ cond x.closed.first_snapshot.closed (cleared 0 b.open_snapshot) b.open_snapshot

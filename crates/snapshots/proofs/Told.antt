@@ -1,7 +1,7 @@
 -- What the code's steps lead to: where an angle of an energy step stands, the answer about a place, and about a magnetic sample.
 -- Assumes nothing.
 use mathlib.Core.Path.{◌≡◌, refl, sym, subst, ◌∙◌}
-use mathlib.Core.Bool.{Bool, true, cond, ◌&&◌, and_false}
+use mathlib.Core.Bool.{Bool, true, cond, ◌&&◌, and-false}
 use mathlib.Core.List.{List}
 use Prim.Native.Nat.{ℕ, ◌+◌, ◌*◌, ◌<◌, ◌≤◌}
 use native.Mathlib.Nat.{mul-le-mul_right}
@@ -40,7 +40,7 @@ told s held p d t i q x e = asked_told (askable s held) (holds_byte held) (λ k.
 
 module _ (s : List ℕ) (held k : ℕ) where
   pub no_angle : angles_part.size ≤ k → MagAngleIs s held k raw.NoSuchPlace
-  no_angle h = not_there (is_mag_angle s held k) _ _ (rw (le-ltb k angles_part.size h) (and_false (askable s held)))
+  no_angle h = not_there (is_mag_angle s held k) _ _ (rw (le-ltb k angles_part.size h) (and-false (askable s held)))
 
   pub angle_told : k < angles_part.size → (r : Raw) → ByteIs s held (mag_angle_byte k) r → MagAngleIs s held k r
   angle_told h r =

@@ -1,7 +1,7 @@
 -- Burst packets by their numbers: which of them lie between two, and whether one of those has bit 6 (02, request 2).
 -- Assumes nothing.
 use mathlib.Core.Path.{◌≡◌, refl, sym, ap, subst}
-use mathlib.Core.Bool.{Bool, true, false, cond, ◌&&◌, ◌||◌, and_false, or-false, or_assoc}
+use mathlib.Core.Bool.{Bool, true, false, cond, ◌&&◌, ◌||◌, and-false, or-false, or_assoc}
 use mathlib.Core.List.{List, [], ◌∷◌, ◌++◌}
 use Prim.Native.Nat.{ℕ, zero, suc, ◌+◌, ◌<◌, ◌≤◌}
 use native.Mathlib.Omega.{arith}
@@ -38,7 +38,7 @@ pub between_none : (qs : List Packet) (n i j : ℕ) → Numbered n qs → j < n 
 unfolding Numbered cut_between
 between_none [] n i j h l = refl
 between_none (q ∷ qs) n i j h l =
-    rw (h.0, lt-leb n j l, and_false) (between_none qs (n + 1) i j h.1 (omega arith))
+    rw (h.0, lt-leb n j l, and-false) (between_none qs (n + 1) i j h.1 (omega arith))
 
 -- no cut between a number and itself
 pub between_same : (qs : List Packet) (i : ℕ) → cut_between qs i i ≡ false

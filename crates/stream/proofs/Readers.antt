@@ -2,7 +2,7 @@
 -- breaks that as they do.
 -- Assumes nothing.
 use mathlib.Core.Path.{◌≡◌, refl, sym, ap, subst, subst⁻¹, ◌∙◌}
-use mathlib.Core.Bool.{Bool, true, false, cond, and_false}
+use mathlib.Core.Bool.{Bool, true, false, cond, and-false}
 use mathlib.Core.List.{List, [], ◌∷◌}
 use mathlib.Core.Logic.{⊎_elim}
 use Prim.Native.Nat.{ℕ, ◌*◌, ◌<◌, ◌≤◌}
@@ -177,7 +177,7 @@ no_byte : (a : ClosedAccumulation) (p : ℕ) → a.cells ≡ lent.finished_cells
 unfolding has_byte lent
 no_byte a p e l =
     let z = ap (λ c. get_or c p 0) e ∙ get_or-replicate {A = ℕ} cells_size p 0 0 (omega arith) in
-    rw (z, science_ones (byte_of p) (once p l).is_byte, and_false) (and_false (holds_cell a.report.held p))
+    rw (z, science_ones (byte_of p) (once p l).is_byte, and-false) (and-false (holds_cell a.report.held p))
 
 none_filled : (os : List ClosedAccumulation) → Every (λ a. a.cells ≡ lent.finished_cells) os → sum (filled_in (first ∷ [])) os ≡ 0
 unfolding Every sum

@@ -1,7 +1,7 @@
 -- One call, as the open snapshot meets it: an accepted record moves it with its bytes, packet by packet.
 -- Assumes nothing.
 use mathlib.Core.Path.{◌≡◌, refl, sym, ap, ◌∙◌}
-use mathlib.Core.Bool.{Bool, true, false, cond, not, ◌&&◌, and_false, false≢true}
+use mathlib.Core.Bool.{Bool, true, false, cond, not, ◌&&◌, and-false, false≢true}
 use mathlib.Core.List.{List, [], ◌∷◌, ◌++◌, map, append_assoc}
 use Prim.Native.Nat.{ℕ, ◌+◌, ◌≤◌}
 use native.Mathlib.Omega.{arith}
@@ -84,7 +84,7 @@ met_packet q s b es n = go (is_part q.code) (joins s q.code) refl
 -- nothing is met of 0, which is no packet's type byte
 met_none : (d : ℕ) (bytes : List ℕ) → Met d 0 bytes []
 unfolding step_packet is_part cuts
-met_none d bytes s b es n = rw and_false
+met_none d bytes s b es n = rw and-false
 
 -- the two packets of a record, one after the other
 module _ (d c₁ c₂ : ℕ) (b₁ b₂ : List ℕ) (ev₁ ev₂ : List Event) (one : Met d c₁ b₁ ev₁) (two : Met d c₂ b₂ ev₂)

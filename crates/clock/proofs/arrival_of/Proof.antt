@@ -7,13 +7,13 @@ use native.Mathlib.Omega.{arith}
 use Rattle.clock.specs.Clock.{ahead, farthest}
 use Rattle.clock.specs.declared.Arrival.TheVariants.{At}
 use Rattle.clock.proofs.Laws.{comes_first, comes_again, comes_far, comes_past, comes_at}
-use borrow.Author.Tests.{not_true, not-false}
+use borrow.Author.Tests.{not-true, not-false}
 use borrow.Author.Rules.{rules}
 use Rattle.clock.proofs.arrival_of.Statement.{statement}
 use Rattle.clock.proofs.arrival_of.Tie as tie
 
 returns : tie.Need-returns
-returns c = let a = c.before.before.args in sym (comes_first a.clock a.count (not_true a.clock.any c.if1.true))
+returns c = let a = c.before.before.args in sym (comes_first a.clock a.count (not-true a.clock.any c.if1.true))
 
 -- the places: how far ahead is known, and the start before it
 abbrev start : tie.After-ahead → tie.Start

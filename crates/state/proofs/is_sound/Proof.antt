@@ -1,6 +1,6 @@
 -- `state::is_sound` meets its contract.
 -- Assumes nothing.
-use mathlib.Core.Bool.{and_false}
+use mathlib.Core.Bool.{and-false}
 use Rattle.prelude.proofs.Conds.{held, fails}
 use Rattle.clock.specs.Clock.{clock_sound}
 use Rattle.accumulation.specs.Soundness.{accumulation_sound}
@@ -18,8 +18,8 @@ returns c =
     let s = c.before.before.args.state in
     rw (
       fails c.before.is_sound.ensures c.if1.true,
-      and_false (accumulation_sound s.clock s.accumulation),
-      and_false (clock_sound s.clock),
+      and-false (accumulation_sound s.clock s.accumulation),
+      and-false (clock_sound s.clock),
     )
 
 is-sound-requires-2 : tie.Need-is-sound-requires-2

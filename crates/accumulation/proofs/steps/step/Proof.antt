@@ -2,7 +2,7 @@
 -- Assumes nothing.
 use borrow.Author.Rules.{rules}
 use mathlib.Core.Path.{sym, ◌∙◌}
-use borrow.Author.Tests.{not_true, not-false}
+use borrow.Author.Tests.{not-true, not-false}
 use Rattle.prelude.proofs.Conds.{held, fails}
 use Rattle.accumulation.specs.Accumulation.{step_accumulation}
 use Rattle.accumulation.specs.Place.{stepped_at}
@@ -23,7 +23,7 @@ returns-2 : tie.Need-returns-2
 unfolding stepped_at step_accumulation
 returns-2 c =
     let k = c.before.before.before in
-    rw (held k.in_place.ensures c.before.before.if1.false, not_true k.before.args.science c.before.if2.true) c.pass.ensures
+    rw (held k.in_place.ensures c.before.before.if1.false, not-true k.before.args.science c.before.if2.true) c.pass.ensures
 
 joins-at-requires : tie.Need-joins-at-requires
 joins-at-requires c κs = let k = c.before.before in place_after _ _ _ (held k.in_place.ensures c.before.if1.false)

@@ -1,7 +1,7 @@
 -- `calls::feeding::is_ready` meets its contract.
 -- Assumes nothing.
 use mathlib.Core.Path.{refl}
-use borrow.Author.Tests.{not_true, not-false}
+use borrow.Author.Tests.{not-true, not-false}
 use Rattle.prelude.proofs.Conds.{held, fails}
 use Rattle.calls.specs.Feeding.{ready_by}
 use borrow.Author.Rules.{rules}
@@ -17,7 +17,7 @@ unfolding ready_by
 returns-2 c =
     let k = c.before.before in
     let a = k.before.args in
-    rw (held k.is_state.ensures c.before.if1.false, not_true a.sized c.if2.true) refl
+    rw (held k.is_state.ensures c.before.if1.false, not-true a.sized c.if2.true) refl
 
 returns-3 : tie.Need-returns-3
 unfolding ready_by

@@ -4,7 +4,7 @@ use mathlib.Core.Path.{sym, ap, ◌∙◌}
 use mathlib.Core.Bool.{Bool, cond}
 use Rattle.counts.specs.declared.codes.Divided.TheVariants.{By1, By8}
 use Rattle.electrons.specs.declared.scale.Scale.TheVariants.{Known}
-use borrow.Author.Tests.{eq-eqb, ne_eqb, not_true, not-false}
+use borrow.Author.Tests.{eq-eqb, ne_eqb, not-true, not-false}
 use Rattle.cells.specs.declared.raw.Raw.{Raw}
 use Rattle.electrons.proofs.Bins.{scalable_small}
 use Rattle.electrons.proofs.Told.{by_state, never_scaled, by_state_lem}
@@ -16,7 +16,7 @@ use Rattle.electrons.proofs.scale.scale_of.Tie as tie
 returns : tie.Need-returns
 returns c =
     let a = c.before.before.before.args in
-    never_scaled a.cells.now a.held a.bin (sym c.before.can-scale.ensures ∙ not_true _ c.if1.true)
+    never_scaled a.cells.now a.held a.bin (sym c.before.can-scale.ensures ∙ not-true _ c.if1.true)
 
 cast-if2 : tie.Need-overflow-cast-if2
 cast-if2 c =

@@ -3,7 +3,7 @@
 use mathlib.Core.Path.{◌≡◌, sym, ◌∙◌}
 use mathlib.Core.Bool.{◌&&◌}
 use Prim.Native.Nat.{ℕ, ◌/◌, ◌%◌}
-use borrow.Author.Tests.{not_true, not-false}
+use borrow.Author.Tests.{not-true, not-false}
 use Rattle.record.specs.Rules.{flags_hold, flag_holds}
 use Rattle.record.proofs.Columns.{flags_test}
 use borrow.Author.Rules.{rules}
@@ -22,7 +22,7 @@ by_word : (f : tie.After-flag-holds)
 by_word f = flags_test (start f).args.r.now (start f).requires (word f) f.before.word16.ensures
 
 returns : tie.Need-returns
-returns c = let first = c.before in rw (by_word first, sym first.flag-holds.ensures ∙ not_true _ c.if1.true)
+returns c = let first = c.before in rw (by_word first, sym first.flag-holds.ensures ∙ not-true _ c.if1.true)
 
 returns-2 : tie.Need-returns-2
 returns-2 c =
@@ -31,7 +31,7 @@ returns-2 c =
     rw (
       by_word first,
       sym first.flag-holds.ensures ∙ not-false _ second.before.if1.false,
-      sym second.flag-holds2.ensures ∙ not_true _ c.if2.true,
+      sym second.flag-holds2.ensures ∙ not-true _ c.if2.true,
     )
 
 returns-3 : tie.Need-returns-3
