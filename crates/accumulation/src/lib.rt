@@ -1,5 +1,7 @@
 // The open accumulation: what joins it, what a record makes of it, what it reports when it closes, and its part of the state list
 // (01, "Joining accumulations", "Numbers a refused record gets"). No buffer is touched here.
+#![tactic(auto)]
+
 mod joining;
 mod soundness;
 mod steps;

@@ -1,4 +1,6 @@
 // Anode and spin phase to one of the 88 angles (01, "Angles"; 000, section 2.3.2).
+#![tactic(auto)]
+
 ghost use Rattle.angles.specs.Angles.{AngleIs};
 
 // An angle 0 to 87, or "no such bin".

@@ -1,5 +1,7 @@
 // Numbers in bytes, read and written: words and signed 16-bit numbers most significant byte first, and 12-bit numbers in either order
 // of the bits. A number that does not lie wholly in the bytes is read as 0; a room in which it doesn't lie wholly stays as found.
+#![tactic(auto)]
+
 ghost use Rattle.std.specs.Prelude.{◌≡◌, ◌<◌};
 
 mod pairs;

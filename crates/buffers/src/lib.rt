@@ -1,5 +1,7 @@
 // Buffers: one copied into another of its size, one laid into another from a place on where it has room, one cleared; and what is
 // to be done to an open buffer and the finished one beside it.
+#![tactic(auto)]
+
 mod signed;
 mod work;
 

@@ -1,4 +1,6 @@
 // Which bytes of a snapshot each burst packet carries (000, section 2.4.1; 02, request 2). No function: the table, and its sizes.
+#![tactic(auto)]
+
 use record::Record;
 
 // A snapshot: 20 packets, of types 36 to 55.

@@ -1,4 +1,6 @@
 // What the rooms for C share: the numbers of their answers, and how bytes and ranges are handed out. Nothing is exported from here.
+#![tactic(auto)]
+
 ghost use Rattle.std.specs.Prelude.{true};
 ghost use Rattle.c_answers.specs.Answers.{RangeGiven};
 ghost use Rattle.c_answers.specs.Handing.{ByteHanded, CountHanded};

@@ -1,4 +1,6 @@
 // The questions about a finished snapshot, and about a burst's MAG, for C; include/lpmag.h documents each function.
+#![tactic(auto)]
+
 ghost use Rattle.std.specs.Prelude.{◌≡◌};
 ghost use Rattle.electrons.specs.Questions.{total_cell, rate_cell};
 ghost use Rattle.snapshots.specs.Questions.{three_asked, pitch_asked, header_asked};

@@ -1,4 +1,6 @@
 // Count ranges and angles, for C; include/lpmag.h documents each function.
+#![tactic(auto)]
+
 ghost use Rattle.std.specs.Prelude.{◌≡◌};
 ghost use Rattle.counts.specs.Codes.{times};
 ghost use Rattle.counts.specs.Sums.{fits64};

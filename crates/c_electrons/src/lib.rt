@@ -1,4 +1,6 @@
 // The electrons of an accumulation, for C; include/lpmag.h documents each function.
+#![tactic(auto)]
+
 ghost use Rattle.std.specs.Prelude.{◌≡◌};
 ghost use Rattle.electrons.specs.Questions.{total_cell, rate_cell, sample_asked, three_asked, header_asked};
 ghost use Rattle.c_answers.specs.Answers.{AskedGiven};

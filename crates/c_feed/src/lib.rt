@@ -1,5 +1,7 @@
 // Many records a call, for C: the state and the report are structs, lent. include/lpmag.h documents the function. It stands in a room
 // of its own, and so in an archive of its own, where it alone calls the reader's step: the compiler then lays all of a step into it.
+#![tactic(auto)]
+
 ghost use Rattle.reader.specs.Buffers.{buffers};
 ghost use Rattle.calls.specs.Feeding.{back_fed, FeedGiven};
 

@@ -1,4 +1,6 @@
 // Questions about a finished major frame, for C; include/lpmag.h documents each function.
+#![tactic(auto)]
+
 ghost use Rattle.calls.specs.Frames.{WordGiven, SampleGiven, NominalGiven};
 
 use shapes::CMajor;

@@ -1,4 +1,6 @@
 // The magnetometer, for C; include/lpmag.h documents each function.
+#![tactic(auto)]
+
 ghost use Rattle.std.specs.Prelude.{◌≡◌};
 ghost use Rattle.c_mag.specs.Magnetometer.{range_number, SamplesGiven, FieldGiven};
 

@@ -1,4 +1,6 @@
 // Numbers in bytes, for C; include/lpmag.h documents each function.
+#![tactic(auto)]
+
 ghost use Rattle.std.specs.Prelude.{◌≡◌};
 ghost use Rattle.bits.specs.Numbers.{least, most, word_in, twelve_in};
 

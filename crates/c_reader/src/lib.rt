@@ -1,4 +1,6 @@
 // The reader, for C: the state and the report are structs, lent. include/lpmag.h documents each function.
+#![tactic(auto)]
+
 ghost use Rattle.reader.specs.Buffers.{buffers};
 ghost use Rattle.calls.specs.Reading.{handed_back, back_closed, StepGiven, FinishGiven};
 

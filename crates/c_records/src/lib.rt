@@ -1,4 +1,6 @@
 // The record, for C; include/lpmag.h documents each function.
+#![tactic(auto)]
+
 ghost use Rattle.std.specs.Prelude.{◌≡◌};
 ghost use Rattle.record.specs.Frame.{kind_of, kind_number};
 ghost use Rattle.record.specs.Layout.{packet_size, packet_bytes};

@@ -1,4 +1,6 @@
 // Which type carries which cells (000, section 2.3; 01, "ER cells").
+#![tactic(auto)]
+
 mod carriers;
 mod row_numbers;
 

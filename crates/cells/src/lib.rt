@@ -1,4 +1,6 @@
 // The lent cells of an accumulation: a frame laid into them, and the byte of a cell (01, "ER cells").
+#![tactic(auto)]
+
 mod laying;
 mod raw;
 

@@ -1,5 +1,7 @@
 // The reader's clock: what "later" means, the turns, at which full count a record stands, and the clock's part of the state list
 // (01, "Numbers a refused record gets"; 02, request 1).
+#![tactic(auto)]
+
 ghost use Rattle.std.specs.Prelude.{◌≡◌};
 ghost use Rattle.clock.specs.Clock.{ahead, arrival_at, accepted, unset, begun, clock_sound};
 

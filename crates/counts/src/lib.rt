@@ -1,4 +1,6 @@
 // Counts from codes (01, "Counts"; 000, section 2.6).
+#![tactic(auto)]
+
 mod codes;
 mod sums;
 

@@ -1,4 +1,6 @@
 // Every question about the counts of an accumulation (01, "Counts"). `held` has bit u set when the frame of type u is held.
+#![tactic(auto)]
+
 mod places;
 mod questions;
 mod scale;

@@ -1,4 +1,6 @@
 // Bytes of the merged file fed to the reader: cut into records, and taken one after another until one has something to tell.
+#![tactic(auto)]
+
 mod cutting;
 mod feeding;
 

@@ -1,5 +1,7 @@
 // The program fields: it prints the fields of each record of its input, or the number of the first rule of 2 to 11 that it breaks. A
 // short tail of the input is one record, refused with 2.
+#![tactic(auto)]
+
 ghost use Rattle.std.specs.Prelude.{◌≤◌};
 
 use libc::STDOUT_FILENO;

@@ -17,7 +17,7 @@ use Rattle.bits.specs.Putting.{bytes_of}
 use Rattle.bits.specs.Signed.{signed_of, unsigned_of, InSixteen, signed_in}
 use Rattle.bits.specs.Pairs.{pair_bytes}
 use Rattle.bits.proofs.Numbers.{below}
-use Rattle.bits.proofs.BytesOf.{length_bytes, are_bytes, bytes_back, bytes_forth}
+use Rattle.bits.proofs.BytesOf.{length_bytes, are_bytes as made_bytes, bytes_back, bytes_forth}
 use Rattle.bits.proofs.WordBytes.{inside, small_word}
 use Rattle.bits.proofs.SignedPut.{unsigned_small, signed_back, signed_forth, signed_fits}
 use Rattle.bits.proofs.PairsPut as pairs
@@ -37,7 +37,7 @@ word_forth b n l h = rw (exact b n l) (bytes_forth most b n l h)
 pub word_law : (n : ℕ) → PartLaw (word n)
 word_law n = record {
   sized = λ x h. length_bytes most n x;
-  bytes = λ x h. are_bytes most n x;
+  bytes = λ x h. made_bytes most n x;
   back = λ x h. ap some (word_back n x h);
   held = λ b x l h e. rw (some-injective (word_in b 0 n) x e) at (small_word b 0 n);
   forth = λ b x l h e. ap (bytes_of most n) (sym (some-injective (word_in b 0 n) x e)) ∙ word_forth b n l h;
@@ -46,7 +46,7 @@ word_law n = record {
 pub signed16_law : PartLaw signed16
 signed16_law = record {
   sized = λ z h. length_bytes most 2 (unsigned_of z);
-  bytes = λ z h. are_bytes most 2 (unsigned_of z);
+  bytes = λ z h. made_bytes most 2 (unsigned_of z);
   back = λ z h. ap some (ap signed_of (word_back 2 (unsigned_of z) (unsigned_small z h)) ∙ signed_back z h);
   held = λ b z l h e. subst InSixteen (some-injective (signed_in b 0) z e) (signed_fits (word_in b 0 2) (small_word b 0 2));
   forth = λ b z l h e.

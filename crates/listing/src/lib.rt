@@ -1,6 +1,8 @@
 // The lines of the listing (01, "The listing, whole"), and what is said of a refused record: bytes put into a lent buffer from a
 // place on. Each function answers where they end. It writes only where the longest line of its kind would still fit; else the
 // buffer stays as found, and the answer is the place where it was to begin.
+#![tactic(auto)]
+
 mod decimal;
 mod lines;
 mod refusals;

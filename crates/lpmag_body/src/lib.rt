@@ -1,6 +1,8 @@
 // The program lpmag: it prints the listing of the records in its input (01, "The listing, whole"), of standard input, or of the files
 // that its arguments name, their bytes laid end to end. It only reads, writes and says what failed: records are cut, read and listed
 // by the proved libraries.
+#![tactic(auto)]
+
 ghost use Rattle.std.specs.Prelude.{◌≤◌};
 
 mod run;

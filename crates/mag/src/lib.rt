@@ -1,4 +1,6 @@
 // The 82 MAG bytes of a packet: range, samples, nominal field (000, section 2.2; 01, "MAG").
+#![tactic(auto)]
+
 mod nominal;
 mod unpacking;
 

@@ -1,5 +1,7 @@
 // The open major frame: what a record makes of it, what it reports when it closes, and its part of the state list (01, "Subcom and
 // major frame", "Joining accumulations", "Numbers a refused record gets"). No buffer is touched here.
+#![tactic(auto)]
+
 mod soundness;
 mod steps;
 

@@ -1,5 +1,7 @@
 // What all programs share: their options, the files that they read, what they write, what they say of a failure, and the status
 // that they end with. Standard output is data, standard error is talk.
+#![tactic(auto)]
+
 mod beginning;
 mod input;
 mod options;

@@ -33,6 +33,8 @@ same_is : (a b : Bool) → T (same a b) → a ≡ b
 unfolding same
 same_is true true t = refl
 same_is false false t = refl
+same_is false true t = elim t [ ]
+same_is true false t = elim t [ ]
 
 -- of each type: it is 58 to 61 exactly when it is none of the others, and no real-time type is a burst's
 abbrev is_undefined : ℕ → Bool

@@ -1,5 +1,7 @@
 // The 472-byte record of the merged archive file: its fixed places, rules 2 to 11, its fields, its packet.
 // Papers: 01 "The record" and "Numbers a refused record gets", the label 002, 000 section 2.
+#![tactic(auto)]
+
 mod frame;
 mod part;
 mod rules;

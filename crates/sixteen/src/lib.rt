@@ -1,1 +1,2 @@
 // No function: 01's sixteen examples, about the definitions that the functions' promises cite.
+#![tactic(auto)]

@@ -1,5 +1,7 @@
 // The open snapshot of a burst: which packets join it, what a record makes of it, what it reports when it closes, and its part of the
 // state list (02, request 2). No buffer is touched here.
+#![tactic(auto)]
+
 mod packets;
 mod soundness;
 mod steps;

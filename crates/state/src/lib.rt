@@ -1,5 +1,7 @@
 // The reader's state by value, the list of what it must be, and what a record decides: no buffer is touched here (01, "Joining
 // accumulations", "Numbers a refused record gets").
+#![tactic(auto)]
+
 ghost use Rattle.std.specs.Prelude.{◌≡◌};
 ghost use Rattle.state.specs.Soundness.{fresh, sound};
 

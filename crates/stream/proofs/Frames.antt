@@ -72,7 +72,7 @@ module _ (x : Kept) (xs : List Kept) where
     parts : continues g.0 (at x) ≡ false → Behind p x
     unfolding continues Rising
     parts e =
-        let n = eqb-false g.0.number (major_number (at x)) (rw o.is_open at e) in
+        let n = eqb-false g.0.number (major_number (at x)) (rw o.is_open_lem at e) in
         omega arith
 
 collects : Gathers collecting Beside Behind major_of Shut Open
@@ -80,7 +80,7 @@ collects = record {
   shut_closes = λ g xs s. unfold major_closing in rw s.is refl;
   shut_passes = λ g x xs e s. absurd (true≢false e);
   shut_opens = λ g x xs e s. (unfold continues in rw s.is refl, anew x xs s.low s.rising);
-  closes = λ h t p g xs o. unfold major_closing major_of in rw (o.is_open, o.is) refl;
+  closes = λ h t p g xs o. unfold major_closing major_of in rw (o.is_open_lem, o.is) refl;
   passes = λ h t p g x xs e o. absurd (true≢false e);
   joins = λ h t p g x xs e j o. joins x xs h t p g o j;
   parts = λ h t p g x xs e j o. (parts x xs h t p g o j, anew x xs (at p + 1) o.rising);

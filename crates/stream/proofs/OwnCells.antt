@@ -1,6 +1,6 @@
 -- Each kept real-time record has exactly one accumulation of its own, and what an accumulation holds is all of such records.
 -- Assumes nothing.
-use mathlib.Core.Path.{◌≡◌, refl, sym, ap, ◌∙◌}
+use mathlib.Core.Path.{◌≡◌, refl, sym, ap, subst, ◌∙◌}
 use mathlib.Core.Bool.{true, false}
 use mathlib.Core.List.{List, [], ◌∷◌}
 use mathlib.Core.Logic.{◌⊎◌, inl, inr, ⊎_elim}
@@ -61,7 +61,7 @@ module _ (rs : List Kept) (c k : ℕ) (counts : Rising at c rs) (serials : Risin
       let r = rw e at q.1 in
       let b = (every_in Typed rs f known i).typed in
       set_by type_of (h ∷ t) (bit_set a.report.held) (type_of f) (λ n. (p.0.others (type_of f) (omega arith) n).unheld) o.0 (In f (h ∷ t)) (λ y j e.
-      rw (same_record f y i (w y j) (one_round t h y p.1 j ∙ r) e) at j))
+      subst (λ (z : Kept). In z (h ∷ t)) (same_record f y i (w y j) (one_round t h y p.1 j ∙ r) e) j))
 
   -- what is held comes from one round
   unmixed_part : (g : List Kept) (a : ClosedAccumulation) → Part g a → Among rs g → Unmixed rs a
