@@ -1,7 +1,7 @@
 -- `clock::arrival_of`: what each way out answers, by how far the count lies ahead.
 -- Assumes nothing.
 use Rattle.std.proofs.Common.{ℕ, ◌+◌, sym, ap, ◌∙◌, arith}
-use borrow.Author.Tests.{not-true, not-false}
+use Rattle.std.proofs.lemmas.Bool.{not-true, not-false}
 use Rattle.clock.specs.declared.Arrival.TheVariants.{At}
 use Rattle.clock.proofs.Laws.{comes_first, comes_again, comes_far, comes_past, comes_at}
 use Rattle.clock.proofs.arrival_of.Goals as goal
