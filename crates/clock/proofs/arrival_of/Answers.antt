@@ -16,7 +16,8 @@ pub returns-then-ahead-gt-FARTHEST : goal.returns-then-ahead-gt-FARTHEST
 returns-then-ahead-gt-FARTHEST c = sym (comes_far c.args.clock c.args.count (not-false c.args.clock.any c.if-not-clock.false) (omega arith))
 
 pub returns-then-ahead-clock : goal.returns-then-ahead-clock
-returns-then-ahead-clock c = sym (comes_past c.args.clock c.args.count (not-false c.args.clock.any c.if-not-clock.false) (omega arith) (omega arith) (omega arith))
+returns-then-ahead-clock c =
+    sym (comes_past c.args.clock c.args.count (not-false c.args.clock.any c.if-not-clock.false) (omega arith) (omega arith) (omega arith))
 
 pub returns : goal.returns
 returns c =
