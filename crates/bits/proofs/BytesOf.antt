@@ -35,10 +35,6 @@ module _ (o : Order) (n x : ℕ) where
       (λ t. rw (byte_at_lem i (ltb-true i n t)) (omega arith))
       (λ t. rw (get_or-eq_default (bytes_of o n x) 0 {n = i} (omega (arith, length_bytes, ltb-false i n t))) (omega arith))
 
-pub rank_below : (o : Order) (n k : ℕ) → k < n → rank_of o n k < n
-rank_below least n k h = h
-rank_below most n k h = omega arith
-
 -- the number in the first i of the n bytes of x: what remains of x above the others, or below them
 abbrev part : Order → ℕ → ℕ → ℕ → ℕ
 part least n x i = x % 2 ^ (8 * i)

@@ -1,17 +1,14 @@
--- The law of signed 16-bit numbers, and what their code computes.
+-- The law of signed 16-bit numbers.
 -- Assumes nothing.
 use mathlib.Core.Bool.{Bool, true, false, cond}
 use mathlib.Core.List.{List}
-use mathlib.Core.Path.{◌≡◌, refl, sym, ap, ◌∙◌}
+use mathlib.Core.Path.{◌≡◌, sym, ◌∙◌}
 use Prim.Native.Nat.{ℕ, suc, ◌+◌, ◌-◌, ◌<◌, ◌≤◌}
 use native.Mathlib.Omega.{arith}
-use lib.Dec.{T, ltb}
-use lib.IntN.{ℤ, pos, negsuc, nat_abs, ◌+ℤ◌, ◌-ℤ◌}
+use lib.Dec.{ltb}
+use lib.IntN.{ℤ, pos, negsuc, ◌-ℤ◌}
 use lib.ListN.{length}
-use lib.Signed.{lt_z, non_neg, mag}
-use mir.Syntax.{w16, w32}
-use mir.Val.{Fits, SFits, to_z, of_z}
-use mir.ValLaws.{to_z_pos, to_z-of_z}
+use lib.Signed.{mag}
 use borrow.Author.Tests.{lt-ltb, le-ltb, ltb-true, ltb-false}
 use Rattle.prelude.proofs.Conds.{cases}
 use Rattle.bits.specs.Numbers.{most, word_in}
@@ -79,72 +76,3 @@ module _ (room : List ℕ) (at : ℕ) where
 
 pub law : SignedLaw
 law room at z = record { back = back room at z; forth = forth room at; own = own room at z; wide = too_wide room at z }
-
--- From a word: below 2 ^ 15 it is the number.
-pub low : (w : ℕ) → w < 32768 → to_z w16 w ≡ signed_of w
-low w h = to_z_pos w16 w h ∙ rw lt-ltb
-
--- Else 2 ^ 16 is taken away, in 32 bits.
-module _ (w : ℕ) (k : 32768 ≤ w) (h : w < 65536) where
-  taken : to_z w32 w -ℤ pos 65536 ≡ negsuc (65536 - suc w)
-  taken = rw (to_z_pos w32 w (omega arith)) (less w h)
-
-  pub taken_fits : SFits w32 (to_z w32 w -ℤ pos 65536)
-  taken_fits = rw taken (record { sfits = omega arith })
-
-  same : to_z w32 (of_z w32 (to_z w32 w -ℤ pos 65536)) ≡ negsuc (65536 - suc w)
-  same = to_z-of_z w32 (to_z w32 w -ℤ pos 65536) taken_fits ∙ taken
-
-  pub high_fits : SFits w16 (to_z w32 (of_z w32 (to_z w32 w -ℤ pos 65536)))
-  high_fits = rw same (record { sfits = omega arith })
-
-  pub high : to_z w16 (of_z w16 (to_z w32 (of_z w32 (to_z w32 w -ℤ pos 65536)))) ≡ signed_of w
-  high = to_z-of_z w16 (to_z w32 (of_z w32 (to_z w32 w -ℤ pos 65536))) high_fits ∙ same ∙ sym (rw le-ltb (less w h))
-
--- To a word: 2 ^ 16 is added in 32 bits where the number is negative.
-negative : (z : ℤ) → InSixteen z → lt_z z (pos 0) ≡ true → z +ℤ pos 65536 ≡ pos (unsigned_of z)
-negative (pos n) h e = absurd (omega (arith, ltb-true n 0 e))
-negative (negsuc n) h e = rw (le-ltb 65536 (suc n) (omega arith))
-
-not_negative : (z : ℤ) → lt_z z (pos 0) ≡ false → z ≡ pos (unsigned_of z)
-not_negative (pos n) e = refl
-not_negative (negsuc n) e = cc
-
-module _ (z : ℤ) (f : SFits w16 z) where
-  cell : to_z w16 (of_z w16 z) ≡ z
-  cell = to_z-of_z w16 z f
-
-  wide : SFits w32 z
-  wide = omega arith
-
-  pub wide_fits : SFits w32 (to_z w16 (of_z w16 z))
-  wide_fits = rw cell wide
-
-  module _ (e : lt_z (to_z w16 (of_z w16 z)) (pos 0) ≡ true) where
-    abbrev sum : ℤ
-    sum = to_z w32 (of_z w32 (to_z w16 (of_z w16 z))) +ℤ pos 65536
-
-    summed : sum ≡ pos (unsigned_of z)
-    summed = rw (cell, to_z-of_z w32 z wide) (negative z f.sfits (rw cell at e))
-
-    pub sum_fits : SFits w32 sum
-    sum_fits = rw summed (record { sfits = omega (arith, unsigned_small z f.sfits) })
-
-    added : to_z w32 (of_z w32 sum) ≡ pos (unsigned_of z)
-    added = to_z-of_z w32 sum sum_fits ∙ summed
-
-    pub added_fits : T (non_neg (to_z w32 (of_z w32 sum))) × Fits w16 (nat_abs (to_z w32 (of_z w32 sum)))
-    added_fits = rw added (tt, record { fits = unsigned_small z f.sfits })
-
-    pub added_is : nat_abs (to_z w32 (of_z w32 sum)) ≡ unsigned_of z
-    added_is = ap nat_abs added
-
-  module _ (e : lt_z (to_z w16 (of_z w16 z)) (pos 0) ≡ false) where
-    kept : to_z w16 (of_z w16 z) ≡ pos (unsigned_of z)
-    kept = cell ∙ not_negative z (rw cell at e)
-
-    pub kept_fits : T (non_neg (to_z w16 (of_z w16 z))) × Fits w16 (nat_abs (to_z w16 (of_z w16 z)))
-    kept_fits = rw kept (tt, record { fits = unsigned_small z f.sfits })
-
-    pub kept_is : nat_abs (to_z w16 (of_z w16 z)) ≡ unsigned_of z
-    kept_is = ap nat_abs kept

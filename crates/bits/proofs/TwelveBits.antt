@@ -1,14 +1,14 @@
 -- The law of 12-bit numbers, for either order.
 -- Assumes nothing.
 use mathlib.Core.Path.{◌≡◌, refl, sym, ◌∙◌}
-use mathlib.Core.Bool.{Bool, true, false, not, cond}
+use mathlib.Core.Bool.{Bool, true, false, cond}
 use mathlib.Core.List.{List}
-use Prim.Native.Nat.{ℕ, zero, suc, ◌+◌, ◌*◌, ◌/◌, ◌%◌, ◌<◌, ◌≤◌}
+use Prim.Native.Nat.{ℕ, zero, suc, ◌+◌, ◌*◌, ◌/◌, ◌%◌, ◌<◌}
 use native.Mathlib.Nat.{add-zero, mul_comm}
 use native.Mathlib.Omega.{arith}
 use lib.Dec.{eqb, leb}
 use lib.ListN.{length, get_or}
-use borrow.Author.Tests.{eqb-true, eqb-false, leb-true, le-leb, lt-leb, not-true, not-false}
+use borrow.Author.Tests.{eqb-true, eqb-false, le-leb}
 use Rattle.prelude.proofs.Conds.{cases}
 use Rattle.bits.specs.Numbers.{Order, least, most, join, number, twelve, twelve_in}
 use Rattle.bits.specs.Twelve.{Bytes, front, back, from_bytes, TwelveLaw}
@@ -62,17 +62,6 @@ law o b k bytes = record {
   three = λ b' bytes' p q. three o b b' k bytes bytes' p q;
 }
 
--- What `bytes_of` asks, from its test t that the number lies wholly in the bytes.
-module _ (b : List ℕ) (k : ℕ) (t : Bool) (told : t ≡ leb (12 * k + 12) (8 * length b)) where
-  pub room : not t ≡ false → 12 * k + 12 ≤ 8 * length b
-  room h = leb-true (12 * k + 12) (8 * length b) (sym told ∙ not-false t h)
-
-  pub no_parts : not t ≡ true → PartsOf b k 0 0
-  no_parts h = let e = sym told ∙ not-true t h in record { whole_is = rw e; shared_is = rw e; whole_byte = omega arith; shared_byte = omega arith }
-
-  pub both_parts : not t ≡ false → (x y : ℕ) → x ≡ get_or b (k / 2 * 3 + k % 2 * 2) 0 → x < 256 → y ≡ get_or b (k / 2 * 3 + 1) 0 → y < 256 → PartsOf b k x y
-  both_parts h x y e l f m = let i = sym told ∙ not-false t h in record { whole_is = rw i e; shared_is = rw i f; whole_byte = l; shared_byte = m }
-
 nothing_even : (o : Order) → join o 8 0 4 (front o 0) ≡ 0
 unfolding join front
 nothing_even least = refl
@@ -110,10 +99,3 @@ module _ (b : List ℕ) (k w s : ℕ) (bytes : Bytes b) (p : PartsOf b k w s) wh
       swapped zero h = refl
       swapped (suc zero) h = refl
       swapped (suc (suc m)) h = absurd (omega arith)
-
--- the last byte and a half, of bytes that are not a whole number of threes
-pub third : (n k : ℕ) → n / 3 ≡ k / 2 → k % 2 ≡ 0 → eqb (n % 3) 2 ≡ leb (12 * k + 12) (8 * n)
-third n k e h =
-    cases (eqb (n % 3) 2)
-    (λ t. rw t (sym (le-leb (12 * k + 12) (8 * n) (omega (arith, eqb-true (n % 3) 2 t)))))
-    (λ t. rw t (sym (lt-leb (12 * k + 12) (8 * n) (omega (arith, eqb-false (n % 3) 2 t)))))

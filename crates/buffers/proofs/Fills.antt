@@ -1,13 +1,11 @@
 -- Turns of a loop that clears, over any element type.
 -- Assumes nothing.
 use mathlib.Core.Path.{◌≡◌, refl}
-use mathlib.Core.List.{List, [], ◌∷◌, ◌++◌, append-nil}
+use mathlib.Core.List.{List, [], ◌∷◌, ◌++◌}
 use Prim.Native.Nat.{ℕ, zero, suc, ◌+◌, ◌<◌}
 use native.Mathlib.Nat.{not-suc-le-zero, le_of_suc-le-suc}
 use native.Mathlib.Numerals.{add-one}
 use lib.ListN.{length, set, drop, replicate}
-use lib.Seq.{drop-length}
-use Rattle.buffers.specs.Clearing.{cleared}
 
 module _ {ℓ} {A : Type ℓ} (v : A) where
   fill_suc : (n : ℕ) (d : List A) → n < length d → set (replicate n v ++ drop n d) n v ≡ replicate (suc n) v ++ drop (suc n) d
@@ -18,6 +16,3 @@ module _ {ℓ} {A : Type ℓ} (v : A) where
   -- a turn: the first n are cleared, the rest is as found
   pub fill_more : (n : ℕ) (d : List A) → n < length d → set (replicate n v ++ drop n d) n v ≡ replicate (n + 1) v ++ drop (n + 1) d
   fill_more n d l = rw add-one (fill_suc n d l)
-
-  pub fill_all : (n : ℕ) (d : List A) → n ≡ length d → replicate n v ++ drop n d ≡ cleared v d
-  fill_all n d e = rw (e, drop-length d, append-nil)

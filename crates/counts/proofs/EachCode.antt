@@ -69,6 +69,3 @@ module _ (c : ℕ) where
   pub high_shifted : c < 256 → (c / 16 ≡ 0 → ⊥) → shifted 17 c % 2 ^ 64 - 1 ≡ code_high c
   unfolding code_high
   high_shifted h n = rw ((code c h).high_kept, ne_eqb)
-
-  pub can_go_down : c < 256 → 1 ≤ shifted 17 c % 2 ^ 64
-  can_go_down h = rw (code c h).high_kept (code c h).high_some
