@@ -12,7 +12,7 @@ pub use steps::{no_accumulation, report, step, unreported};
 
 // The count of its first frame, the frames held (bit u for type u), the type and the count of its last frame, the other frames
 // accepted since. It is open when it holds a frame.
-#[derive(Drop)]
+#[derive(Clone, Copy)]
 pub struct Accumulation {
     pub first: u64,
     pub held: u64,
@@ -22,7 +22,7 @@ pub struct Accumulation {
 }
 
 // What became of a frame: one with science opens an accumulation or joins the open one, another does neither.
-#[derive(Drop)]
+#[derive(Clone, Copy)]
 pub enum GapDecision {
     Opens,
     Joins,
@@ -30,7 +30,7 @@ pub enum GapDecision {
 }
 
 // Whether an accumulation was closed, the count of its first frame and the frames it holds; all 0 where none was.
-#[derive(Drop)]
+#[derive(Clone, Copy)]
 pub struct AccumulationReport {
     pub closed: bool,
     pub first: u64,
@@ -38,7 +38,7 @@ pub struct AccumulationReport {
 }
 
 // A record's part in it: the gap decision, the accumulation after it, what closed, and what is done to the cells.
-#[derive(Drop)]
+#[derive(Clone, Copy)]
 pub struct AccumulationStep {
     pub gap: GapDecision,
     pub next: Accumulation,

@@ -4,14 +4,14 @@
 ghost use Rattle.angles.specs.Angles.{AngleIs};
 
 // An angle 0 to 87, or "no such bin".
-#[derive(Drop)]
+#[derive(Clone, Copy)]
 pub enum Angle {
     At(u8),
     NoSuchBin,
 }
 
 // An anode's first angle, and how many phases an angle of it covers.
-#[derive(Drop)]
+#[derive(Clone, Copy)]
 struct Anode(u8, u8);
 
 const ANODES: [Anode; 16] = [

@@ -22,7 +22,7 @@ fn inside(n: usize, k: usize) -> bool
 }
 
 // The two bytes of a number: the one that it has for itself, and the one that it shares with its neighbour.
-#[derive(Drop)]
+#[derive(Clone, Copy)]
 struct Parts {
     whole: u32,
     shared: u32,

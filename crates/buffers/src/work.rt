@@ -3,7 +3,7 @@ ghost use Rattle.std.specs.Prelude.{◌≡◌};
 ghost use Rattle.buffers.specs.Working.{no_work, closing_work};
 
 // The open one copied to the finished; the open one cleared; the record's own bytes laid into it: in this order.
-#[derive(Drop)]
+#[derive(Clone, Copy)]
 pub struct Work {
     pub copies: bool,
     pub clears: bool,

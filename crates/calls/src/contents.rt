@@ -5,7 +5,7 @@ use record::Contents;
 use shapes::{CFields, fields_out};
 
 // The answer, and the fields after it.
-#[derive(Drop)]
+#[derive(Clone, Copy)]
 pub struct CContents {
     pub answer: u8,
     pub fields: CFields,

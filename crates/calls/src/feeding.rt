@@ -8,7 +8,7 @@ use shapes::{CFed, CState, fed_out, is_state, state_in, state_out};
 use state::is_sound;
 
 // The answer to the call, and the state and the report after it.
-#[derive(Drop)]
+#[derive(Clone, Copy)]
 pub struct CFeeding {
     pub answer: u8,
     pub state: CState,

@@ -8,7 +8,7 @@ use shapes::{CClosed, CReport, CState, closed_out, is_state, report_out, state_i
 use state::{Answer, Ending, Finished, Stepped};
 
 // The answer, and the state and the report after it.
-#[derive(Drop)]
+#[derive(Clone, Copy)]
 pub struct CStepped {
     pub answer: u8,
     pub state: CState,
@@ -16,7 +16,7 @@ pub struct CStepped {
 }
 
 // Finish's answer, the state after it, and what it closed.
-#[derive(Drop)]
+#[derive(Clone, Copy)]
 pub struct CFinished {
     pub answer: u8,
     pub state: CState,

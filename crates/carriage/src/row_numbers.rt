@@ -4,7 +4,7 @@ ghost use Rattle.carriage.specs.RowNumbers.{numbers_of};
 
 // In frame order: how many samples, of 16 bytes each, and the first cell of each; the first header byte and how many; the first
 // 3D byte, for what is left of the 83.
-#[derive(Drop)]
+#[derive(Clone, Copy)]
 pub struct Numbers(pub usize, pub [usize; 5], pub usize, pub usize, pub usize);
 
 // A line a type, held to the printed table. (A `const` table would be built anew at each read.) Above 35 nothing is carried.

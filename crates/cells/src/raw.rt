@@ -7,7 +7,7 @@ use carriage::CELLS;
 use record::FRAME_MARKS;
 
 // The byte of a cell, or why there is none.
-#[derive(Drop)]
+#[derive(Clone, Copy)]
 pub enum Raw {
     Byte(u8),
     Absent,

@@ -6,7 +6,7 @@ ghost use Rattle.std.specs.Prelude.{◌≡◌};
 ghost use Rattle.clock.specs.Clock.{ahead, arrival_at, accepted, unset, begun, clock_sound};
 
 // Whether anything was accepted, and the full count of the last accepted record: its turn is what lies above 24 bits.
-#[derive(Drop)]
+#[derive(Clone, Copy)]
 pub struct Clock {
     pub any: bool,
     pub last: u64,
@@ -22,7 +22,7 @@ const FARTHEST: u64 = 8388607;
 pub const FULL_COUNTS: u64 = 68719476736;
 
 // The full count at which a record stands; or it isn't later; or its turn would be past the last.
-#[derive(Drop)]
+#[derive(Clone, Copy)]
 pub enum Arrival {
     At(u64),
     NotLater,

@@ -5,7 +5,7 @@ ghost use Rattle.counts.specs.Codes.{code_low, code_high, divisor, range_of};
 use crate::Range;
 
 // What the counts were divided by before they were compressed: pre-scaled samples by 8, Total and Rate by 16.
-#[derive(Drop)]
+#[derive(Clone, Copy)]
 pub enum Divided {
     By1,
     By8,

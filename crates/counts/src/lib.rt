@@ -8,7 +8,7 @@ pub use codes::{Divided, range_of};
 pub use sums::{Sum, add};
 
 // Counts from low to high, both in it. 64 bits, so that the cells of many accumulations can be added.
-#[derive(Drop)]
+#[derive(Clone, Copy)]
 pub struct Range {
     pub low: u64,
     pub high: u64,

@@ -4,7 +4,7 @@ ghost use Rattle.counts.specs.Sums.{SumIs};
 use crate::Range;
 
 // A range, or "too large" for one past 64 bits.
-#[derive(Drop)]
+#[derive(Clone, Copy)]
 pub enum Sum {
     Within(Range),
     TooLarge,

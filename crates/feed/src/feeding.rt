@@ -9,7 +9,7 @@ use state::{Answer, Closed, State};
 
 // Where the last record taken began and where the next begins, the number that refused the last or 0, the state after it, and what
 // it closed.
-#[derive(Drop)]
+#[derive(Clone, Copy)]
 pub struct Fed {
     pub from: usize,
     pub at: usize,

@@ -16,7 +16,7 @@ pub const MAJOR_SAMPLES: usize = SLOTS * mag::FRAME_SAMPLES;
 
 // A major frame: its number, subcom words and ranges by slot, the slots held and those held with MAG (bit s for slot s). It is open when it holds a
 // slot. In this order the words and ranges begin at multiples of 16 bytes of the state, and are copied and tested in whole ones.
-#[derive(Drop)]
+#[derive(Clone, Copy)]
 pub struct Major {
     pub number: u64,
     pub words: [u16; SLOTS],
@@ -26,21 +26,21 @@ pub struct Major {
 }
 
 // Whether a major frame was closed, and which; all 0 where none was.
-#[derive(Drop)]
+#[derive(Clone, Copy)]
 pub struct MajorReport {
     pub closed: bool,
     pub frame: Major,
 }
 
 // What is done to the samples, and in which slot a record's own are laid.
-#[derive(Drop)]
+#[derive(Clone, Copy)]
 pub struct SlotWork {
     pub work: Work,
     pub slot: usize,
 }
 
 // A record's part in it: the major frame after it, what closed, and what is done to the samples.
-#[derive(Drop)]
+#[derive(Clone, Copy)]
 pub struct MajorStep {
     pub next: Major,
     pub report: MajorReport,

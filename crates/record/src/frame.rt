@@ -6,7 +6,7 @@ ghost use Rattle.record.specs.Frame.{carries_mag, carries_science, carries_burst
 
 use crate::Record;
 
-#[derive(Drop)]
+#[derive(Clone, Copy)]
 pub enum Kind {
     RealTime(u8),
     HalfBurst,

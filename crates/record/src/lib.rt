@@ -19,7 +19,7 @@ pub use values::{Contents, fields};
 
 // The fields of a record that passes rules 2 to 11; the second code is that of a full burst's second packet, and 0 in any other
 // frame. Its fixed facts are the constants below, written once.
-#[derive(Drop)]
+#[derive(Clone, Copy)]
 pub struct Record {
     pub count: u32,
     pub day: u16,

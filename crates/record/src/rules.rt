@@ -7,7 +7,7 @@ ghost use Rattle.record.specs.Rules.{status_spare_holds, flag_holds, flags_hold,
 use crate::Record;
 use crate::frame::{Kind, kind_of};
 
-#[derive(Drop)]
+#[derive(Clone, Copy)]
 pub enum Verdict {
     Passes,
     Refused(u8),

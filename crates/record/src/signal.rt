@@ -2,14 +2,14 @@
 ghost use Rattle.std.specs.Prelude.{◌≡◌};
 ghost use Rattle.record.specs.Signal.{LevelIs, bits_of};
 
-#[derive(Drop)]
+#[derive(Clone, Copy)]
 pub enum Level {
     Finite(f32),
     NotFinite(u32),
 }
 
 // Level and quality travel together (01, "The record").
-#[derive(Drop)]
+#[derive(Clone, Copy)]
 pub struct Reading {
     pub level: Level,
     pub quality: Level,

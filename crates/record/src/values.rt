@@ -9,7 +9,7 @@ use crate::rules::{Verdict, check};
 use crate::signal::{Reading, level_of};
 
 // The fields of a record that passes rules 2 to 11, or the number of the first rule that fails and no fields.
-#[derive(Drop)]
+#[derive(Clone, Copy)]
 pub enum Contents {
     Fields(Record),
     Refused(u8),

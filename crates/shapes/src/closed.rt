@@ -10,7 +10,7 @@ use snapshot::SnapshotReport;
 use state::{Closed, Taken};
 
 #[repr(C)]
-#[derive(Drop)]
+#[derive(Clone, Copy)]
 pub struct CClosedSnapshot {
     pub first: u64,
     pub held: u32,
@@ -20,7 +20,7 @@ pub struct CClosedSnapshot {
 }
 
 #[repr(C)]
-#[derive(Drop)]
+#[derive(Clone, Copy)]
 pub struct CClosed {
     pub major: CMajor,
     pub accumulation_first: u64,
@@ -35,7 +35,7 @@ pub struct CClosed {
 
 // Of an accepted record.
 #[repr(C)]
-#[derive(Drop)]
+#[derive(Clone, Copy)]
 pub struct CReport {
     pub fields: CFields,
     pub gap: u8,
@@ -47,7 +47,7 @@ pub struct CReport {
 
 // Of many records: the bytes taken, what the last one was answered, and what it closed.
 #[repr(C)]
-#[derive(Drop)]
+#[derive(Clone, Copy)]
 pub struct CFed {
     pub taken: u64,
     pub answer: u8,

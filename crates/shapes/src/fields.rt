@@ -6,7 +6,7 @@ use record::{Level, Record};
 
 // Level and quality are their 32 bits, with a mark that says whether they are a number.
 #[repr(C)]
-#[derive(Drop)]
+#[derive(Clone, Copy)]
 pub struct CFields {
     pub count: u32,
     pub millisecond: u32,

@@ -5,7 +5,7 @@ ghost use Rattle.shapes.specs.Frames.{major_in, major_out};
 use major::{Major, SLOTS};
 
 #[repr(C)]
-#[derive(Drop)]
+#[derive(Clone, Copy)]
 pub struct CMajor {
     pub number: u64,
     pub words: [u16; SLOTS],

@@ -10,7 +10,7 @@ use snapshot::Snapshot;
 use state::State;
 
 #[repr(C)]
-#[derive(Drop)]
+#[derive(Clone, Copy)]
 pub struct CAccumulation {
     pub first: u64,
     pub held: u64,
@@ -23,7 +23,7 @@ pub struct CAccumulation {
 }
 
 #[repr(C)]
-#[derive(Drop)]
+#[derive(Clone, Copy)]
 pub struct CSnapshot {
     pub first: u64,
     pub held: u32,
@@ -34,7 +34,7 @@ pub struct CSnapshot {
 
 // All 0 is the fresh state.
 #[repr(C)]
-#[derive(Drop)]
+#[derive(Clone, Copy)]
 pub struct CState {
     pub last: u64,
     pub any: u8,

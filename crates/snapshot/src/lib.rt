@@ -12,7 +12,7 @@ pub use steps::{no_packet_work, no_snapshot, report, step, unreported};
 
 // The count of the frame that brought its first packet, the packets held (bit t - 36 for type t), the type of its last packet, and
 // whether, since that one, a count wasn't accepted or a burst packet came whose type byte has bit 6. It is open when it holds a packet.
-#[derive(Drop)]
+#[derive(Clone, Copy)]
 pub struct Snapshot {
     pub first: u64,
     pub held: u32,
@@ -21,7 +21,7 @@ pub struct Snapshot {
 }
 
 // Whether a snapshot was closed, the count of its first packet's frame and the packets it holds; all 0 where none was.
-#[derive(Drop)]
+#[derive(Clone, Copy)]
 pub struct SnapshotReport {
     pub closed: bool,
     pub first: u64,
@@ -29,14 +29,14 @@ pub struct SnapshotReport {
 }
 
 // What is done to the snapshot's bytes, and where a packet's own are laid.
-#[derive(Drop)]
+#[derive(Clone, Copy)]
 pub struct PacketWork {
     pub work: Work,
     pub at: usize,
 }
 
 // A packet's part in it: the snapshot after it, what closed, and what is done to the bytes.
-#[derive(Drop)]
+#[derive(Clone, Copy)]
 pub struct PacketStep {
     pub next: Snapshot,
     pub report: SnapshotReport,
@@ -44,7 +44,7 @@ pub struct PacketStep {
 }
 
 // A record's: the snapshot after both of its packets, what closed first and second, and what is done for each.
-#[derive(Drop)]
+#[derive(Clone, Copy)]
 pub struct SnapshotStep {
     pub next: Snapshot,
     pub first: SnapshotReport,

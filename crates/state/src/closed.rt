@@ -8,7 +8,7 @@ use major::{MajorReport, SlotWork};
 use snapshot::{PacketWork, SnapshotReport};
 
 // One call may close all; the major frame is reported first, then the accumulation, then the snapshots, of which it may close two.
-#[derive(Drop)]
+#[derive(Clone, Copy)]
 pub struct Closed {
     pub major: MajorReport,
     pub accumulation: AccumulationReport,
@@ -17,7 +17,7 @@ pub struct Closed {
 }
 
 // What is done to the samples, to the cells, and to the snapshot's bytes for each of two packets.
-#[derive(Drop)]
+#[derive(Clone, Copy)]
 pub struct Works {
     pub samples: SlotWork,
     pub cells: Work,

@@ -15,20 +15,20 @@ use mag::Unpacked;
 use record::{Contents, Record};
 
 // An accepted record: its fields, among them its kind, and the gap decision.
-#[derive(Drop)]
+#[derive(Clone, Copy)]
 pub struct Taken {
     pub fields: Record,
     pub gap: GapDecision,
 }
 
-#[derive(Drop)]
+#[derive(Clone, Copy)]
 pub enum Answer {
     Refused(u8),
     Accepted(Taken),
 }
 
 // The answer to a record, the state after it, and what it closed.
-#[derive(Drop)]
+#[derive(Clone, Copy)]
 pub struct Stepped {
     pub answer: Answer,
     pub state: State,
@@ -36,7 +36,7 @@ pub struct Stepped {
 }
 
 // That, and what is then done to samples, cells and the snapshot's bytes.
-#[derive(Drop)]
+#[derive(Clone, Copy)]
 pub struct Decided {
     pub stepped: Stepped,
     pub works: Works,

@@ -6,14 +6,14 @@ use crate::closed::{Closed, Works, no_works, nothing_closed};
 use crate::{State, is_sound};
 use buffers::{closing_work, no_work};
 
-#[derive(Drop)]
+#[derive(Clone, Copy)]
 pub enum Ending {
     Refused(u8),
     Done,
 }
 
 // The answer, the state after it, and what it closed.
-#[derive(Drop)]
+#[derive(Clone, Copy)]
 pub struct Finished {
     pub ending: Ending,
     pub state: State,
@@ -21,7 +21,7 @@ pub struct Finished {
 }
 
 // That, and what is then done to samples, cells and the snapshot's bytes.
-#[derive(Drop)]
+#[derive(Clone, Copy)]
 pub struct Ended {
     pub finished: Finished,
     pub works: Works,

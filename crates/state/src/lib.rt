@@ -18,7 +18,7 @@ use major::Major;
 use snapshot::Snapshot;
 
 // Clock, open accumulation, open major frame, open snapshot. Fresh is all 0.
-#[derive(Drop)]
+#[derive(Clone, Copy)]
 pub struct State {
     pub clock: Clock,
     pub accumulation: Accumulation,
