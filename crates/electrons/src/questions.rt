@@ -8,7 +8,7 @@ use cells::Raw;
 use counts::{Divided, Range};
 
 // The counts that a cell stands for, or why none can be said.
-#[derive(Drop)]
+#[derive(Clone, Copy)]
 pub enum Count {
     Within(Range),
     ScaleUnknown,

@@ -7,7 +7,7 @@ use cells::Raw;
 use counts::Divided;
 
 // What a byte's counts were divided by, or that the header byte which would say so isn't held.
-#[derive(Drop)]
+#[derive(Clone, Copy)]
 pub enum Scale {
     Known(Divided),
     Unknown,
