@@ -31,6 +31,7 @@ pub fn give(r: Range, low: &mut u64, high: &mut u64) -> u8
 }
 
 // The byte of an answer, or the number of its words.
+#[tactic(auto, unfolding(crate::specs::Answers::words_number, cells::specs::Bytes::raw_said))]
 pub fn hand_byte(answer: Raw, byte: &mut u8) -> u8
     ensures { ByteHanded answer byte.old result byte.new }
 {
