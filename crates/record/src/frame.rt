@@ -16,6 +16,7 @@ pub enum Kind {
 }
 
 // Is it the type of a burst packet?
+#[tactic(auto, unfolding(crate::specs::Frame::is_burst))]
 fn is_burst(t: u8) -> bool
     ensures { result ≡ is_burst t }
 {
@@ -23,6 +24,7 @@ fn is_burst(t: u8) -> bool
 }
 
 // By the Frame Code and byte 85, which is looked at in a full burst alone.
+#[tactic(auto, unfolding(crate::specs::Frame::kind_of_codes))]
 fn kind_of_codes(code: u8, second: u8) -> Kind
     ensures { result ≡ kind_of_codes code second }
 {
@@ -56,6 +58,7 @@ pub fn kind_of(packet: &[u8]) -> Kind
 }
 
 // The kind as one number; those that are no real-time type lie above all types.
+#[tactic(auto, unfolding(crate::specs::Frame::kind_number))]
 pub fn kind_number(kind: Kind) -> u8
     ensures { result ≡ kind_number kind }
 {
@@ -69,6 +72,7 @@ pub fn kind_number(kind: Kind) -> u8
 }
 
 // Does a frame of this kind carry MAG that is kept?
+#[tactic(auto, unfolding(crate::specs::Frame::carries_mag))]
 pub fn carries_mag(kind: Kind) -> bool
     ensures { result ≡ carries_mag kind }
 {
@@ -82,6 +86,7 @@ pub fn carries_mag(kind: Kind) -> bool
 }
 
 // Does a frame of this kind carry science bytes of an accumulation?
+#[tactic(auto, unfolding(crate::specs::Frame::carries_science))]
 pub fn carries_science(kind: Kind) -> bool
     ensures { result ≡ carries_science kind }
 {
@@ -95,6 +100,7 @@ pub fn carries_science(kind: Kind) -> bool
 }
 
 // Does a frame of this kind carry a burst packet?
+#[tactic(auto, unfolding(crate::specs::Frame::carries_burst))]
 pub fn carries_burst(kind: Kind) -> bool
     ensures { result ≡ carries_burst kind }
 {
@@ -108,6 +114,7 @@ pub fn carries_burst(kind: Kind) -> bool
 }
 
 // Does a frame of this kind carry two burst packets?
+#[tactic(auto, unfolding(crate::specs::Frame::carries_two))]
 pub fn carries_two(kind: Kind) -> bool
     ensures { result ≡ carries_two kind }
 {

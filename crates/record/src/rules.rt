@@ -13,6 +13,7 @@ pub enum Verdict {
     Refused(u8),
 }
 
+#[tactic(auto, using(crate::proofs::Columns::sync_test))]
 fn sync_holds(r: &[u8]) -> bool
     requires { length r.now ≡ size }
     ensures { result ≡ sync_holds r.now }
@@ -21,6 +22,7 @@ fn sync_holds(r: &[u8]) -> bool
 }
 
 // Version and spacecraft, the upper ten bits of the header word.
+#[tactic(auto, using(crate::proofs::Columns::spacecraft_test))]
 fn spacecraft_holds(r: &[u8]) -> bool
     requires { length r.now ≡ size }
     ensures { result ≡ spacecraft_holds r.now }
@@ -28,6 +30,7 @@ fn spacecraft_holds(r: &[u8]) -> bool
     bits::word16(r, Record::HEADER_AT) / 64 == Record::VERSION_SPACECRAFT
 }
 
+#[tactic(auto, using(crate::proofs::Columns::rate_test))]
 fn rate_holds(r: &[u8]) -> bool
     requires { length r.now ≡ size }
     ensures { result ≡ rate_holds r.now }
@@ -35,6 +38,7 @@ fn rate_holds(r: &[u8]) -> bool
     bits::word16(r, Record::HEADER_AT) % 64 == Record::RATE
 }
 
+#[tactic(auto, using(crate::proofs::Columns::spare_test))]
 fn spare_holds(r: &[u8]) -> bool
     requires { length r.now ≡ size }
     ensures { result ≡ spare_holds r.now }
@@ -42,6 +46,7 @@ fn spare_holds(r: &[u8]) -> bool
     r[Record::SPARE_AT] == 0
 }
 
+#[tactic(auto, using(crate::proofs::Columns::day_low, crate::proofs::Columns::day_test))]
 fn day_holds(r: &[u8]) -> bool
     requires { length r.now ≡ size }
     ensures { result ≡ day_holds r.now }
@@ -53,6 +58,7 @@ fn day_holds(r: &[u8]) -> bool
     day <= Record::DAYS
 }
 
+#[tactic(auto, using(crate::proofs::Columns::millisecond_test))]
 fn millisecond_holds(r: &[u8]) -> bool
     requires { length r.now ≡ size }
     ensures { result ≡ millisecond_holds r.now }
@@ -61,6 +67,7 @@ fn millisecond_holds(r: &[u8]) -> bool
 }
 
 // The upper ten bits of the status word.
+#[tactic(auto, using(crate::proofs::Columns::status_test))]
 fn status_spare_holds(r: &[u8]) -> bool
     requires { length r.now ≡ size }
     ensures { result ≡ status_spare_holds r.now }
@@ -78,6 +85,7 @@ fn flag_holds(f: u16) -> bool
 }
 
 // Three flags of two bits, the lower six bits of the status word.
+#[tactic(auto, using(crate::proofs::Columns::flags_test))]
 fn flags_hold(r: &[u8]) -> bool
     requires { length r.now ≡ size }
     ensures { result ≡ flags_hold r.now }

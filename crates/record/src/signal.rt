@@ -27,6 +27,7 @@ pub fn level_of(bits: u32) -> Level
 }
 
 // The 32 bits of a level. A `Finite` that holds no number, which `level_of` never gives, has the bits 7FC00000.
+#[tactic(auto, using(crate::proofs::Kept::equal_number, crate::proofs::Kept::unequal_bits), unfolding(crate::specs::Signal::bits_of))]
 pub fn bits_of(level: Level) -> u32
     ensures { result ≡ bits_of level }
 {
