@@ -1,0 +1,9 @@
+-- `c_bursts::lpmag_snapshot_pitch` meets its contract.
+-- Assumes nothing.
+use Rattle.c_answers.proofs.Handing.{count_told}
+use Rattle.c_bursts.proofs.lpmag_snapshot_pitch.Goals as goal
+
+pub returns : goal.returns
+returns c =
+    let a = c.args in
+    count_told _ _ a.low.now a.high.now _ _ _ c.pitch.ensures c.hand_count.ensures
