@@ -27,7 +27,8 @@ module _ (bytes : List ℕ) where
     where
       go : (b : Bool) → quiet (fed_one bytes d).fed ≡ b → n ≡ whole_from bytes (fed_one bytes d).fed.at
           → (quiet (fed_one bytes d).fed ≡ true → told_in n bytes (fed_one bytes d) ≡ first (feed_up_to n bytes (fed_one bytes d)))
-          → cond b (told_in n bytes (fed_one bytes d)) ((fed_one bytes d).fed ∷ told_in n bytes (fed_one bytes d)) ≡ first (feed_up_to n bytes (fed_one bytes d))
+          → cond b (told_in n bytes (fed_one bytes d)) ((fed_one bytes d).fed ∷ told_in n bytes (fed_one bytes d))
+          ≡ first (feed_up_to n bytes (fed_one bytes d))
       go true b l r = r b
       go false b l r = sym (ap first (loud n bytes (fed_one bytes d) b) ∙ rw (b, sym l))
 

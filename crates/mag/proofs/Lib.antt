@@ -2,5 +2,4 @@ pub mod Answers
 pub mod Fields
 pub mod Floats
 pub mod Pairs
-pub mod Small
 pub mod Single

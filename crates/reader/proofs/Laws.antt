@@ -16,7 +16,7 @@ use Rattle.major.specs.Major.{major_unreported, slot_of, continues}
 use Rattle.snapshot.specs.Snapshot as snapshot
 use Rattle.state.specs.Closed.{nothing_closed}
 use Rattle.state.specs.Soundness.{sound}
-use Rattle.state.specs.Deciding.{Input, fields_of, count_at, reader_rules, number_of, refusal, decided_of, answer_number}
+use Rattle.state.specs.Deciding.{Input, fields_of, count_at, reader_rules, number_of, decided_of, answer_number}
 use Rattle.state.specs.Ending.{unended, ended_of, ending_number}
 use Rattle.state.specs.Keeping.{Sound}
 use Rattle.state.specs.declared.State.{State}

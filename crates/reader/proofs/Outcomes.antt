@@ -9,7 +9,7 @@ use lib.Dec.{eqb}
 use lib.IntN.{ℤ, pos}
 use lib.ListN.{length, take, drop, length-take, length-drop}
 use lib.Seq.{take_all}
-use borrow.Author.Tests.{eq-eqb, eqb-true, eqb-false}
+use borrow.Author.Tests.{eqb-true, eqb-false}
 use Rattle.prelude.proofs.Conds.{cases, two}
 use Rattle.record.specs.Layout.{size, packet_size, packet_bytes, frame_code, type_in}
 use Rattle.record.specs.Frame.{carries_burst, carries_two, kind_of}

@@ -56,3 +56,6 @@ module _ (b : ℕ) where
 
   pub kept_bits : b < 4294967296 → (b / 8388608 % 256 ≡ 255 → ⊥) → to_bits binary32 (of_bits binary32 b) ≡ b
   kept_bits l h = to_bits-of_bits binary32 b l (subst (λ (t : Bool). T (not t)) (nan_bits_is binary32 b) (not_nan h))
+
+-- what a level is, once its bits are read
+pub ruleset level_read = (not_nan, kept_bits, reads_finite, reads_none)

@@ -16,6 +16,7 @@ pub struct Reading {
 }
 
 // Chosen by the exponent field: all ones is an infinity or no number.
+#[tactic(auto, using(crate::proofs::Kept::level_read), unfolding(crate::specs::Signal::level_of, crate::specs::Signal::bits_of))]
 pub fn level_of(bits: u32) -> Level
     ensures { LevelIs bits result }
 {

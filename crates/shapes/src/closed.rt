@@ -57,6 +57,7 @@ pub struct CFed {
     pub closed: CClosed,
 }
 
+#[tactic(auto, unfolding(crate::specs::Closed::gap_number))]
 fn gap_number(gap: GapDecision) -> u8
     ensures { result ≡ gap_number gap }
 {

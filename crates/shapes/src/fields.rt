@@ -27,6 +27,7 @@ pub struct CFields {
     pub spare16: u16,
 }
 
+#[tactic(auto, unfolding(crate::specs::Fields::finite_mark))]
 fn mark_of(level: Level) -> u8
     ensures { result ≡ finite_mark level }
 {

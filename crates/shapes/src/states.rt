@@ -53,6 +53,7 @@ pub(crate) fn flag_of(b: bool) -> u8
 }
 
 // Is each flag 0 or 1, and each spare field 0? Only then is it a state.
+#[tactic(auto, unfolding(crate::specs::States::is_state))]
 pub fn is_state(c: CState) -> bool
     ensures { result ≡ is_state c }
 {

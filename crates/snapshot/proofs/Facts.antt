@@ -106,6 +106,9 @@ module _ (code : ℕ) (e : is_part code ≡ true) where
   pub mark_shift : 1 * 2 ^ mark_of code % 2 ^ 32 ≡ 2 ^ mark_of code
   mark_shift = weight 32 (mark_of code) (omega arith)
 
+-- what the code needs of that type where it sets the packet's mark
+pub ruleset part_marks = (part_from, mark_weight, mark_shift)
+
 -- what joining tells
 pub joins_open_lem : (s : Snapshot) (code : ℕ) → joins s code ≡ true → s.held ≡ 0 → ⊥
 unfolding joins

@@ -6,6 +6,7 @@ use crate::{FIRST, Snapshot};
 use clock::Clock;
 
 // Is its type one of a snapshot's, 36 to 55?
+#[tactic(auto, unfolding(crate::specs::Snapshot::is_part))]
 pub(crate) fn is_part(code: u8) -> bool
     ensures { result ≡ is_part code }
 {
@@ -13,6 +14,7 @@ pub(crate) fn is_part(code: u8) -> bool
 }
 
 // Is bit 6 set?
+#[tactic(auto, unfolding(crate::specs::Snapshot::cuts))]
 pub(crate) fn cuts(code: u8) -> bool
     ensures { result ≡ cuts code }
 {
@@ -42,6 +44,7 @@ pub(crate) fn cut_if(b: bool, s: Snapshot) -> Snapshot
 }
 
 // Does a packet of types 36 to 55 join?
+#[tactic(auto, unfolding(crate::specs::Snapshot::joins))]
 pub(crate) fn joins(s: Snapshot, code: u8) -> bool
     ensures { result ≡ joins s code }
 {

@@ -6,12 +6,14 @@ use crate::{FIRST, Snapshot};
 use bursts::PACKET_MARKS;
 use clock::Clock;
 
+#[tactic(auto, unfolding(crate::specs::Soundness::packets_among))]
 fn packets_among(s: Snapshot) -> bool
     ensures { result ≡ packets_among s }
 {
     s.held < PACKET_MARKS
 }
 
+#[tactic(auto, unfolding(crate::specs::Soundness::last_highest, prelude::specs::Marks::highest))]
 fn last_highest(s: Snapshot) -> bool
     ensures { result ≡ last_highest s }
 {
@@ -27,12 +29,14 @@ fn last_highest(s: Snapshot) -> bool
     s.held >> (s.last_type - FIRST) == 1
 }
 
+#[tactic(auto, unfolding(crate::specs::Soundness::first_fits))]
 fn first_fits(clock: Clock, s: Snapshot) -> bool
     ensures { result ≡ first_fits clock s }
 {
     s.first <= clock.last
 }
 
+#[tactic(auto, unfolding(crate::specs::Soundness::none_open))]
 fn none_open(s: Snapshot) -> bool
     ensures { result ≡ none_open s }
 {
@@ -40,6 +44,7 @@ fn none_open(s: Snapshot) -> bool
 }
 
 // Does the snapshot pass its part of the list, with this clock?
+#[tactic(auto, unfolding(crate::specs::Soundness::snapshot_sound))]
 pub fn is_sound(clock: Clock, s: Snapshot) -> bool
     ensures { result ≡ snapshot_sound clock s }
 {

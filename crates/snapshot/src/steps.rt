@@ -56,6 +56,7 @@ pub fn no_packet_work(work: Work) -> PacketWork
 }
 
 // Where the bytes of a packet of types 36 to 55 go, with what is done before that.
+#[tactic(auto, using(crate::proofs::Facts::part_from))]
 fn laying(code: u8, copies: bool, clears: bool) -> PacketWork
     requires { is_part code ≡ true }
     ensures { result ≡ lays code copies clears }
@@ -82,6 +83,7 @@ fn pass(s: Snapshot, code: u8) -> PacketStep
 }
 
 // A packet after those it holds.
+#[tactic(auto, using(crate::proofs::Facts::part_marks), unfolding(prelude::specs::Marks::marked))]
 fn extend(s: Snapshot, code: u8) -> PacketStep
     requires { (is_part code ≡ true) × (s.held < 2 ^ 21) }
     ensures { result ≡ extends s code }
@@ -99,6 +101,7 @@ fn extend(s: Snapshot, code: u8) -> PacketStep
 }
 
 // The open snapshot closes, and a new one opens with that packet alone.
+#[tactic(auto, using(crate::proofs::Facts::part_marks))]
 fn renew(s: Snapshot, d: u64, code: u8) -> PacketStep
     requires { is_part code ≡ true }
     ensures { result ≡ renews s d code }
@@ -116,6 +119,7 @@ fn renew(s: Snapshot, d: u64, code: u8) -> PacketStep
 }
 
 // One packet of a record at count d, by its type byte; 0 is no packet's.
+#[tactic(auto, unfolding(crate::specs::Snapshot::step_packet))]
 fn step_packet(s: Snapshot, d: u64, code: u8) -> PacketStep
     requires { s.held < 2 ^ 21 }
     ensures { result ≡ step_packet s d code }
@@ -157,6 +161,7 @@ fn both(x: PacketStep, y: PacketStep) -> SnapshotStep
 }
 
 // Is none open, and comes no packet? So it is with every record outside a playback: then nothing is done.
+#[tactic(auto, unfolding(crate::specs::Inner::Passing::passes_by))]
 fn passes_by(s: Snapshot, one: u8, two: u8) -> bool
     ensures { result ≡ passes_by s one two }
 {

@@ -89,4 +89,5 @@ collects = record {
 -- from nothing open: the major frames handed out are some cutting of the kept records
 pub frames : (xs : List Kept) (s : List ℤ) (c : ℕ) → Rising at c xs → Grouped Beside Behind major_of xs (collect no_major s xs)
 frames xs s c r =
-    rw (map_same _ ∙ those_all xs) at (gathered collecting Beside Behind major_of Shut Open collects xs (no_major, s) (record { low = c; is = refl; rising = r }))
+    rw (map_same _ ∙ those_all xs) at
+    (gathered collecting Beside Behind major_of Shut Open collects xs (no_major, s) (record { low = c; is = refl; rising = r }))

@@ -70,7 +70,8 @@ piece q p = record { below = mark_small q.code p.is; sized = p.sized }
 
 -- byte k of each packet
 byte_table : (k : ℕ) → k < burst_size
-    → Table mark bytes_with (λ b u. get_or b (burst_size * u + k) 0) (λ q. get_or q.bytes k 0) Piece (λ u. u < bursts.packets) (λ low b. length b ≡ snapshot_size)
+    → Table mark bytes_with (λ b u. get_or b (burst_size * u + k) 0) (λ q. get_or q.bytes k 0) Piece (λ u. u < bursts.packets)
+    (λ low b. length b ≡ snapshot_size)
 unfolding bytes_with
 byte_table k h = blocks mark bursts.packets 0 burst_size (λ q. q.bytes) k h
 

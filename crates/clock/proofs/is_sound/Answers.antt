@@ -1,7 +1,7 @@
 -- `clock::is_sound`: the test of its bound as the definition has it.
 -- Assumes nothing.
 use Rattle.std.proofs.Common.{rules}
-use borrow.Author.Tests.{lt-ltb, le-ltb}
+use Rattle.std.proofs.lemmas.Bool.{lt-ltb, le-ltb}
 use Rattle.clock.specs.Clock.{clock_sound}
 use Rattle.clock.proofs.is_sound.Goals as goal
 

@@ -1,7 +1,7 @@
 -- `accumulation::joining::in_place`: its tests in turn, as the definition has them.
 -- Assumes nothing.
 use Rattle.std.proofs.Common.{rules, arith}
-use borrow.Author.Tests.{eq-eqb, lt-ltb, le-ltb}
+use Rattle.std.proofs.lemmas.Bool.{eq-eqb, lt-ltb, le-ltb}
 use Rattle.accumulation.specs.Place.{in_place}
 use Rattle.accumulation.proofs.Clauses.{place_late, place_sum}
 use Rattle.accumulation.proofs.joining.in_place.Goals as goal

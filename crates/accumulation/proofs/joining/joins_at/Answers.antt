@@ -1,7 +1,7 @@
 -- `accumulation::joining::joins_at`: its tests in turn, as the rule has them.
 -- Assumes nothing.
 use Rattle.std.proofs.Common.{◌<◌, ◌≤◌, rules, arith}
-use borrow.Author.Tests.{eq-eqb, ne_eqb, le-leb, lt-leb, lt-ltb, le-ltb}
+use Rattle.std.proofs.lemmas.Bool.{eq-eqb, ne_eqb, le-leb, lt-leb, lt-ltb, le-ltb}
 use Rattle.accumulation.specs.Accumulation.{gap, fewest, joins}
 use Rattle.accumulation.proofs.joining.joins_at.Goals as goal
 

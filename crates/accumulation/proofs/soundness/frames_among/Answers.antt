@@ -1,7 +1,7 @@
 -- `accumulation::soundness::frames_among`: its tests in turn, as the clause has them; above type 35 no frame is held.
 -- Assumes nothing.
 use Rattle.std.proofs.Common.{rules, arith}
-use borrow.Author.Tests.{eq-eqb, ne_eqb, lt-ltb, le-ltb}
+use Rattle.std.proofs.lemmas.Bool.{eq-eqb, ne_eqb, lt-ltb, le-ltb}
 use Rattle.prelude.specs.Marks.{highest}
 use Rattle.accumulation.specs.Soundness.{frames_among}
 use Rattle.accumulation.proofs.Clauses.{type_above}

@@ -28,7 +28,9 @@ returns-then-j-lt52 c =
 pub returns-then-j-lt84 : goal.returns-then-j-lt84
 returns-then-j-lt84 c =
     let p = c.args.p in
-    c.half_spin_carrier-then-j-lt84.ensures ∙ sample_84 ((p - 4) / 16) (omega arith) (omega arith) (omega arith) (omega arith) (omega arith) ∙ sample_is p c.requires.0 c.requires.1
+    c.half_spin_carrier-then-j-lt84.ensures
+    ∙ sample_84 ((p - 4) / 16) (omega arith) (omega arith) (omega arith) (omega arith) (omega arith)
+    ∙ sample_is p c.requires.0 c.requires.1
 
 pub returns-then-j-lt88 : goal.returns-then-j-lt88
 returns-then-j-lt88 c =

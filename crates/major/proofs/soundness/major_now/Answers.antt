@@ -1,7 +1,7 @@
 -- `major::soundness::major_now`: its tests in turn, as the clause has them.
 -- Assumes nothing.
 use Rattle.std.proofs.Common.{rules}
-use borrow.Author.Tests.{eq-eqb, ne_eqb}
+use Rattle.std.proofs.lemmas.Bool.{eq-eqb, ne_eqb}
 use Rattle.prelude.specs.Marks.{highest}
 use Rattle.major.specs.Soundness.{major_now}
 use Rattle.major.proofs.soundness.major_now.Goals as goal

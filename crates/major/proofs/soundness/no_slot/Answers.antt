@@ -1,7 +1,7 @@
 -- `major::soundness::no_slot`: its tests in turn, as the clause has them.
 -- Assumes nothing.
 use Rattle.std.proofs.Common.{rules}
-use borrow.Author.Tests.{eq-eqb, ne_eqb}
+use Rattle.std.proofs.lemmas.Bool.{eq-eqb, ne_eqb}
 use Rattle.major.specs.Soundness.{no_slot}
 use Rattle.major.proofs.soundness.no_slot.Goals as goal
 

@@ -1,7 +1,7 @@
 -- `major::steps::continues_at`: its tests in turn, as the rule has them.
 -- Assumes nothing.
 use Rattle.std.proofs.Common.{rules}
-use borrow.Author.Tests.{eq-eqb, ne_eqb}
+use Rattle.std.proofs.lemmas.Bool.{eq-eqb, ne_eqb}
 use Rattle.major.specs.Major.{continues}
 use Rattle.major.proofs.steps.continues_at.Goals as goal
 

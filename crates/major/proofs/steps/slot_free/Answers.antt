@@ -1,7 +1,7 @@
 -- `major::steps::slot_free`: its tests in turn, as the definition has them.
 -- Assumes nothing.
 use Rattle.std.proofs.Common.{rules}
-use borrow.Author.Tests.{eq-eqb, ne_eqb}
+use Rattle.std.proofs.lemmas.Bool.{eq-eqb, ne_eqb}
 use Rattle.major.specs.Place.{slot_free}
 use Rattle.major.proofs.steps.slot_free.Goals as goal
 

@@ -1,0 +1,11 @@
+-- `listing::lines::put_header`: the text is the header's.
+use Rattle.std.proofs.Common.{refl}
+use Rattle.buffers.proofs.Patches.{has_room_lem}
+use Rattle.listing.proofs.Puts.{is_written}
+use Rattle.listing.specs.Lines.{header}
+use Rattle.listing.proofs.lines.put_header.Goals as goal
+
+pub returns : goal.returns
+unfolding header
+returns c =
+    is_written c.put.ensures 24 (has_room_lem c.args.out.now c.args.at 24 _ c.if-not-has_room.ensures refl)
