@@ -14,7 +14,6 @@ use Rattle.shapes.specs.Fields.{fields_out}
 use Rattle.state.specs.Deciding.{number_of, decided_of}
 use Rattle.state.specs.Ending.{ended_of, ending, unended}
 use Rattle.state.specs.Soundness.{sound}
-use Rattle.state.specs.declared.deciding.Decided.{Decided}
 use Rattle.state.proofs.Decisions.{refused_is}
 use Rattle.reader.specs.Buffers.{Buffers, sized, worked}
 use Rattle.reader.specs.Steps.{input, stepped}

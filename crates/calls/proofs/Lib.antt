@@ -1,4 +1,3 @@
 pub mod Asked
 pub mod Handed
-pub mod Lents
 pub mod Laws

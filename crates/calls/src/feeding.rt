@@ -16,6 +16,7 @@ pub struct CFeeding {
 }
 
 // Rule 1: is it a state that passes the list, and are the buffers of their sizes?
+#[tactic(auto, unfolding(crate::specs::Feeding::ready_by))]
 fn is_ready(state: CState, sized: bool) -> bool
     ensures { result ≡ ready_by state sized }
 {

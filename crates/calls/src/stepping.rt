@@ -25,6 +25,7 @@ pub struct CFinished {
 
 // The number of a refusal is never 0. It is said here in a form that the compiler sees: the exported function stores only where the
 // answer is 0, and what it would store of a refusal is then never put together.
+#[tactic(auto, unfolding(crate::specs::Inner::Handing::not_zero))]
 fn not_zero(n: u8) -> u8
     ensures { result ≡ not_zero n }
 {

@@ -19,6 +19,7 @@ pub fn cut<'a>(bytes: &'a [u8], at: usize) -> &'a [u8]
 }
 
 // Does a whole record begin at place `at` of so many bytes?
+#[tactic(auto, unfolding(crate::specs::Cutting::is_whole))]
 pub fn is_whole(size: usize, at: usize) -> bool
     ensures { result ≡ is_whole size at }
 {

@@ -31,6 +31,7 @@ fn begin(state: State, at: usize) -> Fed
     }
 }
 
+#[tactic(auto, unfolding(state::specs::Deciding::answer_number))]
 fn rule_of(answer: Answer) -> u8
     ensures { result ≡ answer_number answer }
 {
@@ -41,6 +42,7 @@ fn rule_of(answer: Answer) -> u8
 }
 
 // Was the last record accepted, and closed nothing?
+#[tactic(auto, unfolding(crate::specs::Feeding::is_quiet))]
 fn is_quiet(
     rule: u8,
     major_closed: bool,

@@ -1,4 +1,3 @@
-pub mod Counts
 pub mod Facts
 pub mod Keeping
 pub mod Closing

@@ -38,6 +38,7 @@ pub fn fresh() -> State
 }
 
 // Does the state pass the list? Each part tests its own; the major frame first, so that its arrays aren't held over the other tests.
+#[tactic(auto, unfolding(crate::specs::Soundness::sound))]
 pub fn is_sound(state: State) -> bool
     ensures { result ≡ sound state }
 {
