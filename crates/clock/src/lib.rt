@@ -53,6 +53,7 @@ fn ahead(clock: Clock, count: u32) -> u64
 }
 
 // Of a record whose own field says `count`. A later one stands as far above the last accepted as it lies ahead, whatever its turn.
+#[tactic(auto, using(crate::proofs::Laws::comes_again))]
 pub fn arrival_of(clock: Clock, count: u32) -> Arrival
     ensures { result ≡ arrival_at clock count }
 {
@@ -83,6 +84,7 @@ pub fn begun(clock: Clock, n: u64) -> bool
 }
 
 // Does the clock pass its part of the list?
+#[tactic(auto, unfolding(crate::specs::Clock::clock_sound))]
 pub fn is_sound(clock: Clock) -> bool
     ensures { result ≡ clock_sound clock }
 {

@@ -4,87 +4,100 @@
 
 ghost use Rattle.std.specs.Prelude.{◌≤◌};
 
-use libc::STDOUT_FILENO;
 use programs::{Source, Start};
-use record::{Contents, Kind, Level, Record};
+use record::{Contents, Kind, Level, Reading, Record};
+use std::io;
 
 // its name, for what it says
 const NAME: [u8; 6] = *b"fields";
 
-// Each function that prints answers whether all was written.
-fn text(bytes: &[u8]) -> bool {
-    io::write_all(STDOUT_FILENO, bytes)
+fn text(out: &impl Print, bytes: &[u8]) -> io::Result<()> {
+    out.write_all(bytes)
 }
 
-fn digits(n: u64) -> bool {
-    io::print_decimal(STDOUT_FILENO, n)
+fn digits(out: &impl Print, n: u64) -> io::Result<()> {
+    print!(out; "{n}")
 }
 
 // A space and the number.
-fn number(n: u64) -> bool {
-    text(b" ") && digits(n)
+fn number(out: &impl Print, n: u64) -> io::Result<()> {
+    text(out, b" ")?;
+    digits(out, n)
 }
 
-fn print_kind(kind: Kind) -> bool {
+fn print_kind(out: &impl Print, kind: &Kind) -> io::Result<()> {
     match kind {
-        Kind::RealTime(_) => text(b" real-time"),
-        Kind::HalfBurst => text(b" half-burst"),
-        Kind::FullBurst => text(b" full-burst"),
-        Kind::Other => text(b" other"),
-        Kind::Undefined => text(b" undefined"),
+        Kind::RealTime(_) => text(out, b" real-time"),
+        Kind::HalfBurst => text(out, b" half-burst"),
+        Kind::FullBurst => text(out, b" full-burst"),
+        Kind::Other => text(out, b" other"),
+        Kind::Undefined => text(out, b" undefined"),
     }
 }
 
-fn print_mark(level: Level) -> bool {
+fn print_mark(out: &impl Print, level: &Level) -> io::Result<()> {
     match level {
-        Level::Finite(_) => text(b" finite:"),
-        Level::NotFinite(_) => text(b" not-finite:"),
+        Level::Finite(_) => text(out, b" finite:"),
+        Level::NotFinite(_) => text(out, b" not-finite:"),
     }
 }
 
 // The mark, and the 32 bits as eight hexadecimal digits.
-fn print_level(level: Level) -> bool {
-    print_mark(level) && io::print_hex(STDOUT_FILENO, record::bits_of(level) as u64, 8)
+fn print_level(out: &impl Print, level: Level) -> io::Result<()> {
+    print_mark(out, &level)?;
+    let bits = record::bits_of(level);
+    print!(out; "{bits:08x}")
 }
 
-fn print_flags(f: Record) -> bool {
-    number(f.first_flag as u64) && digits(f.second_flag as u64) && digits(f.third_flag as u64)
+fn print_flags(out: &impl Print, f: &Record) -> io::Result<()> {
+    number(out, f.first_flag as u64)?;
+    digits(out, f.second_flag as u64)?;
+    digits(out, f.third_flag as u64)
 }
 
-fn print_times(f: Record) -> bool {
-    number(f.count as u64) && number(f.day as u64) && number(f.millisecond as u64)
+fn print_times(out: &impl Print, f: &Record) -> io::Result<()> {
+    number(out, f.count as u64)?;
+    number(out, f.day as u64)?;
+    number(out, f.millisecond as u64)
 }
 
-fn print_frame(f: Record) -> bool {
-    let kind = f.kind;
-    number(f.frame_code as u64)
-        && number(f.frame_type as u64)
-        && print_kind(kind)
-        && number(f.second_code as u64)
-        && number(f.subcom as u64)
+fn print_frame(out: &impl Print, f: &Record) -> io::Result<()> {
+    number(out, f.frame_code as u64)?;
+    number(out, f.frame_type as u64)?;
+    print_kind(out, &f.kind)?;
+    number(out, f.second_code as u64)?;
+    number(out, f.subcom as u64)
 }
 
-fn print_reading(f: Record) -> bool {
-    let reading = f.reading;
-    let level = reading.level;
-    let quality = reading.quality;
-    print_level(level) && print_level(quality)
+fn print_reading(out: &impl Print, reading: Reading) -> io::Result<()> {
+    let Reading { level, quality } = reading;
+    print_level(out, level)?;
+    print_level(out, quality)
 }
 
-fn print_fields(f: Record) -> bool {
-    text(b" passes") && print_times(f) && print_flags(f) && print_frame(f) && print_reading(f)
+fn print_fields(out: &impl Print, f: Record) -> io::Result<()> {
+    text(out, b" passes")?;
+    print_times(out, &f)?;
+    print_flags(out, &f)?;
+    print_frame(out, &f)?;
+    print_reading(out, f.reading)
 }
 
-fn print_contents(contents: Contents) -> bool {
+fn print_contents(out: &impl Print, contents: Contents) -> io::Result<()> {
     match contents {
-        Contents::Fields(f) => print_fields(f),
-        Contents::Refused(rule) => text(b" refused") && number(rule as u64),
+        Contents::Fields(f) => print_fields(out, f),
+        Contents::Refused(rule) => {
+            text(out, b" refused")?;
+            number(out, rule as u64)
+        }
     }
 }
 
 // The line of record n.
-fn print_record(n: u64, r: &[u8]) -> bool {
-    digits(n) && print_contents(record::fields(r)) && text(b"\n")
+fn print_record(out: &impl Print, n: u64, r: &[u8]) -> io::Result<()> {
+    digits(out, n)?;
+    print_contents(out, record::fields(r))?;
+    text(out, b"\n")
 }
 
 // What goes on from record to record.
@@ -98,13 +111,24 @@ struct Run {
     goes_on: bool,
 }
 
+// Answers whether all was written, and says so if not.
+fn was_written(rt: &HostRuntime, printed: io::Result<()>) -> bool {
+    match printed {
+        Ok(()) => true,
+        Err(error) => {
+            programs::unwritten(rt, &NAME, error);
+            false
+        }
+    }
+}
+
 // One record.
-fn next(run: Run) -> Run {
+fn next(rt: &HostRuntime, run: Run) -> Run {
     let mut r = [0u8; Record::SIZE];
-    let input = programs::fill(run.source, &NAME, &mut r);
+    let input = programs::fill(rt, run.source, &NAME, &mut r);
     let source = input.source;
     let got = programs::within(input.got, &r);
-    let is_written = got == 0 || print_record(run.number, &r[..got]);
+    let is_written = got == 0 || was_written(rt, print_record(rt, run.number, &r[..got]));
     Run {
         source: source,
         number: std::num::wrapping_add_u64(run.number, 1),
@@ -113,41 +137,40 @@ fn next(run: Run) -> Run {
     }
 }
 
-// The lines of all records. A proved loop has to end: it counts its turns down, from a number that no run uses up.
-fn print_all(run: Run) -> Run {
+// The lines of all records. A proved loop has to end: it counts its turns, up to a number that no run reaches.
+fn print_all(rt: &HostRuntime, run: Run) -> Run {
     let mut run = run;
-    let mut turns = u64::MAX;
-    while turns > 0 && run.goes_on {
-        run = next(run);
-        turns -= 1;
+    for _ in 0..u64::MAX {
+        if !run.goes_on {
+            break;
+        }
+        run = next(rt, run);
     }
     run
 }
 
 // Answers whether all could be read and written.
-fn print(from_files: bool) -> bool {
-    let is_written = text(
-        b"record answer count day millisecond flags code type kind second subcom level quality\n",
-    );
+fn print(rt: &HostRuntime, from_files: bool) -> bool {
+    let header =
+        b"record answer count day millisecond flags code type kind second subcom level quality\n";
+    let is_written = was_written(rt, text(rt, header));
     let begun = Run {
         source: programs::first(from_files),
         number: 0,
         all_written: is_written,
         goes_on: is_written,
     };
-    let run = print_all(begun);
+    let run = print_all(rt, begun);
     let source = run.source;
-    if !run.all_written {
-        programs::unwritten(&NAME);
-    }
     run.all_written && source.all_read
 }
 
 // The options, of which it has none of its own, or what there is to say in place of records.
-fn begin() -> Start
+fn begin(rt: &HostRuntime) -> Start
     ensures { result.status ≤ 2 }
 {
     programs::begin(
+        rt,
         &NAME,
         b"",
         b"fields [FILE]...
@@ -166,13 +189,13 @@ subcom word, signal level and quality, each with its 32 bits.
 }
 
 // Runs the program and answers its status: 0 good, 1 not all could be read or written, 2 an unknown option.
-pub fn perform() -> u8
+pub fn perform(rt: &HostRuntime) -> u8
     ensures { result ≤ 2 }
 {
-    let start = begin();
+    let start = begin(rt);
     if !start.goes_on {
         return start.status;
     }
     let options = start.options;
-    programs::status(print(options.files))
+    programs::status(print(rt, options.files))
 }

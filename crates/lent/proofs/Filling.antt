@@ -11,7 +11,7 @@ use Rattle.lent.proofs.Params.{fills}
 use Rattle.lent.proofs.Handing.{params, with_temps, anew, handed, past_temps, Temps, temps_env, Stand, stand, cells, alloc_temps, free_temps}
 use Rattle.lent.proofs.Handing.{pass_all, lent_anew, hands_on}
 use Rattle.lent.proofs.Shapes.{alone, called, function, answers, tested, contract, Met, types, Telling, telling, knowing, answered, by_walk}
-use Rattle.lent.proofs.Kit.{◌≡◌, refl, sym, ap, subst, ℕ, ◌<◌, ◌^◌, suc, [], ◌∷◌, List, Ura, full_share, Name, Fn, Ty, w8, ty_int, ty_bool, place, copy}
+use Rattle.lent.proofs.Kit.{◌≡◌, refl, sym, ap, subst, ℕ, ◌<◌, ◌^◌, suc, [], ◌∷◌, List, Ura, full_share, Callee, Fn, Ty, w8, ty_int, ty_bool, place, copy}
 use Rattle.lent.proofs.Kit.{deref, field, rv_opd, seq, assign, call, local, value_local, Val, vint, SProp, ent, sep, fat, flft, Calls, Loops}
 use Rattle.lent.proofs.Kit.{WpFn, Tables, sem, Lfts, Shares, Item, at_ret, ‵, raw, ◌⊛◌, ⋆, ◌$◌, ◌∵◌, !, qed, by, move, drop, use1, use2}
 use Rattle.lent.proofs.Kit.{split, join, rewrite, fsplit, fsplit3, fjoin, suffices, frame, done, look, look_raw, init, store_raw, stop, hop, fld}
@@ -19,7 +19,7 @@ use Rattle.lent.proofs.Kit.{from, load, of_opd, bin, lit, and_then, assigns, ass
 use Rattle.lent.proofs.Kit.{alloc0, params1, free0, whole, sub, look_in, FmC, fm_of, owns, flat, Is, Are, Ises, shows, uint_Makes, u8, plain, only}
 use Rattle.lent.proofs.Kit.{owned, facts, Args, Vals, alive, on_entry, Contract, Triple, calls_at, Ended, says, Stays, stay_ref, walk_of, Goes-ref}
 use Rattle.lent.proofs.Kit.{ends_at}
-use types.Logic.{Logic, sem}
+use package.types.Logic.{Logic, sem}
 
 module _ (ms : List More) (R : Lent) (O : Outcome (R ∷ [])) where
   abbrev pub Says : Type 1
@@ -56,7 +56,7 @@ module _ (ms : List More) (R : Lent) (O : Outcome (R ∷ [])) where
   abbrev temps : ℕ
   temps = suc (suc out)
 
-  abbrev code : Name → Fn
+  abbrev code : Callee → Fn
   code g =
       function all_of (local (out_mir O) value_local ∷ local (mir_of R) value_local ∷ with_temps ms (local ty_bool value_local ∷ []))
       (seq (assign (place (suc out) []) (rv_opd (copy (place 1 (deref (mir_of R) ∷ [])))))
@@ -132,10 +132,10 @@ module _ (ms : List More) (R : Lent) (O : Outcome (R ∷ [])) where
           (t, back F G x z) (tt, fits F x (back F G x z))) $
           says ! (same_said F G (λ v w. P was v (O.make ((O.values r).0, (t, tt))) w) x z
           (subst (λ (u : O.D). P was (ins G y) u (ends G (lefts G y z))) same e)) $
-          move ! (2 ∷ 4 ∷ []) $ join ! $ frame ! $ move ! (2 ∷ []) $ use1 𝓛 (‵ (had F x (back F G x z))) (lasts_back 𝓛 F G x z) $
+          move ! (2 ∷ 4 ∷ []) $ join ! $ frame ! $ move ! (2 ∷ []) $ use1 𝓛 (‵ (had F x (back F G x z))) (lasts_back 𝓛 F G refl x z) $
           move ! (1 ∷ 2 ∷ []) $ again R a.0 ! $ fjoin ! $ frame ! $ owned ! u8 (Is u8) (uint_Makes 𝓛 w8) (O.values r).0 _ (refl, small) $ done !
 
-    walk : (g : Name) (C : Calls 𝓤 H) (Λ : Loops 𝓤 H) → FmC 𝓤 H 𝓛.laws C → Triple 𝓤 (C g) (Asks 𝓛 P) → Are (types lent κs) (Ises (types lent κs)) a at
+    walk : (g : Callee) (C : Calls 𝓤 H) (Λ : Loops 𝓤 H) → FmC 𝓤 H 𝓛.laws C → Triple 𝓤 (C g) (Asks 𝓛 P) → Are (types lent κs) (Ises (types lent κs)) a at
         → ent 𝓤 (on_entry 𝓛 lent.signature κs qs a at) (WpFn 𝓤 H C Λ (code g) (flat (types lent κs) at) Post)
     walk g C Λ fm known are =
         qed 𝓛 ((‵ (flft κs.0 qs.0) ⊛ raw Tokens) ∷ ‵ (owns (types lent κs) a at) ∷ []) ∵ enter ! C Λ (code g) (flat (types lent κs) at) _ $
@@ -179,7 +179,7 @@ module _ (ms : List More) (R : Lent) (O : Outcome (R ∷ [])) where
         free_all ! (params ms 1) bs.1 (cells F x) $ gone ! $ gone ! $ free_temps ! F ts x $ gone ! $ free0 ! $
         by ! (exits was zs.1 r (keeps was _ r _ e (off_0 off)) e own.0.1))))))))))))))
 
-  pub meets : {M : Type 1} {𝓤 : Ura M} (𝓛 : Logic 𝓤) (P : Says) → Keeps P → (g : Name) (𝓣 : Tables 𝓤 𝓛.H)
+  pub meets : {M : Type 1} {𝓤 : Ura M} (𝓛 : Logic 𝓤) (P : Says) → Keeps P → (g : Callee) (𝓣 : Tables 𝓤 𝓛.H)
       → Triple 𝓤 (𝓣.C g) (Asks 𝓛 P) → Met lent 𝓛 (lends P) 𝓣 (code g)
   meets {𝓤 = 𝓤} 𝓛 P keeps g 𝓣 known =
       by_walk lent 𝓛 (lends P) 𝓣 (code g) stayed (Goes-ref 𝓛 more.n 0 tt (plain (λ _. row_of R)), go_on 𝓛 more)

@@ -2,11 +2,12 @@
 -- read for the call. The parameters' locals are one entry of the context, and those of what is lent anew another.
 -- Assumes nothing.
 use mathlib.Core.Path.{refl}
-use Prim.Native.Nat.{ℕ, suc}
+use Prim.Native.Nat.{ℕ, zero, suc}
 use mathlib.Core.List.{[], ◌∷◌, ◌++◌, List}
 use seplogic.Ra.Ura.{Ura}
 use mir.Syntax.{named, Ty, Opd as Operand, Body, copy, place, Local, local, value_local}
-use base.Fml.{ftrue}
+use base.Fraction.{full_share}
+use base.Fml.{ftrue, fat, fdies}
 use prog.Wp.{Env, Calls, Loops}
 use types.Logic.{Logic}
 use types.Kit.{Goal, Post, allocs, passes, frees, runs, Seq, Step, step, Item, ‵, ◌⊛◌, ◌$◌, move, split, join, drop}
@@ -83,23 +84,26 @@ module _ {M : Type 1} {𝓤 : Ura M} {𝓛 : Logic 𝓤} {K : Type 0} where
   pub alloc_temps : {Γ : List (Item 𝓤)} → K → (ms : List More) (ls : List Local) {Kt : Env 𝓤 H → Goal 𝓤 H}
       → ((ts : Temps ms) → Seq K 𝓛 (empty 𝓤 ms ts ∷ Γ) (allocs ls (λ E. Kt (temps_env ms ts E)))) → Seq K 𝓛 Γ (allocs (with_temps ms ls) Kt)
   alloc_temps k [] ls then = nothing k $ then tt
-  alloc_temps k (m ∷ ms) ls then =
-      alloc_all k m.anew.temps (with_temps ms ls) (λ bs. alloc_temps k ms ls (λ ts. move k (1 ∷ 0 ∷ []) $ join k $ then (bs, ts)))
+  alloc_temps {Γ = Γ} k (m ∷ ms) ls then =
+      alloc_all k m.anew.temps (with_temps ms ls) (λ bs. alloc_temps {Γ = rooms 𝓤 m.anew.temps bs ∷ Γ} k ms ls (λ ts.
+      move k (1 ∷ 0 ∷ []) $ join k $ then (bs, ts)))
 
   pub free_temps : {Γ : List (Item 𝓤)} {E : Env 𝓤 H} {G : Goal 𝓤 H} → K → {ms : List More} (F : Has ms) (ts : Temps ms) (a : Passed F)
       → Step K 𝓛 Γ (frees E G) (full 𝓤 F ts a ∷ Γ) (frees (temps_env ms ts E) G)
   free_temps k {ms = []} F ts a = drop k
   free_temps k {ms = m ∷ ms} F ts a =
-      step (λ s. split k $ free_all k m.anew.temps ts.0 (m.anew.filled a.0) $ free_temps k (beyond F) ts.1 a.1 $ s)
+      step (λ s. split k $ free_all k m.anew.temps ts.0 (m.anew.filled a.0) $ free_temps k {ms = ms} (beyond F) ts.1 a.1 $ s)
 
   -- the arguments are stored
   pub pass_all : {Γ : List (Item 𝓤)} {G : Goal 𝓤 H} → K → (E : Env 𝓤 H) {ms : List More} (F : Has ms) (bs : Spots (locals F)) (a : Passed F) → Known F a
       → Step K 𝓛 (held 𝓤 (locals F) bs (cells F a) ∷ Γ) G
       (rooms 𝓤 (locals F) bs ∷ Γ) (passes (env_in (locals F) bs E) (flat (rows F) (vals F a)) G)
   pass_all k E {ms = []} F bs a are = pass0 k
-  pass_all k E {ms = m ∷ ms} F bs a are =
+  pass_all {Γ = Γ} k E {ms = m ∷ ms} F bs a are =
+      let τ = m.mir (named F.0.i) in
       step (λ s. split k $ split k $ pass1 k (init k 0 refl (m.typed (named F.0.i) (own_at F) a.0 are.0)) $ move k (2 ∷ []) $
-      pass_all k E (beyond F) bs.1 a.1 are.1 $ move k (1 ∷ 2 ∷ []) $ join k $ join k $ s)
+      pass_all {Γ = ‵ (fat full_share τ bs.0 zero (m.val a.0)) ∷ ‵ (fdies τ bs.0) ∷ Γ} k E {ms = ms} (beyond F) bs.1 a.1 are.1 $
+      move k (1 ∷ 2 ∷ []) $ join k $ join k $ s)
 
   -- what is lent anew is
   pub lent_anew : {Γ : List (Item 𝓤)} {E : Env 𝓤 H} {C : Calls 𝓤 H} {Λ : Loops 𝓤 H} {q : Post 𝓤 H} {rest : Body} → K
@@ -108,11 +112,14 @@ module _ {M : Type 1} {𝓤 : Ura M} {𝓛 : Logic 𝓤} {K : Type 0} where
       → Step K 𝓛 (held 𝓤 (locals F) bs (cells F a) ∷ full 𝓤 F ts a ∷ Γ) (runs C Λ E rest q)
       (held 𝓤 (locals F) bs (cells F a) ∷ empty 𝓤 ms ts ∷ Γ) (runs C Λ E (anew ms p t rest) q)
   lent_anew k {ms = []} F p t bs ts a are at st = step (λ s. s)
-  lent_anew k {ms = m ∷ ms} F p t bs ts a are at st =
+  lent_anew {Γ = Γ} k {ms = m ∷ ms} F p t bs ts a are at st =
+      let τ = m.mir (named F.0.i) in
       step (λ s. split k $ split k $ move k (3 ∷ []) $ split k $ move k (2 ∷ 0 ∷ []) $
       m.anew.lent k (named F.0.i) p t bs.0 ts.0 a.0 (m.typed (named F.0.i) (own_at F) a.0 are.0) at.0 st.0 $
       -- [its cell; what it is lent in; the others' empty locals; its death; the others' cells]
-      move k (4 ∷ 2 ∷ []) $ lent_anew k (beyond F) (suc p) (past m.anew.temps t) bs.1 ts.1 a.1 are.1 at.1 st.1 $
+      move k (4 ∷ 2 ∷ []) $
+      lent_anew {Γ = ‵ (fat full_share τ bs.0 zero (m.val a.0)) ∷ held 𝓤 m.anew.temps ts.0 (m.anew.filled a.0) ∷ ‵ (fdies τ bs.0) ∷ Γ} k {ms = ms}
+      (beyond F) (suc p) (past m.anew.temps t) bs.1 ts.1 a.1 are.1 at.1 st.1 $
       move k (3 ∷ 1 ∷ []) $ join k $ move k (2 ∷ 3 ∷ []) $ join k $ move k (0 ∷ 2 ∷ []) $ join k $ s)
 
   -- they are read for the call, from within whatever entries they are in; to the callee they are what its signature has
@@ -123,5 +130,5 @@ module _ {M : Type 1} {𝓤 : Ura M} {𝓛 : Logic 𝓤} {K : Type 0} where
   hands_on k {ms = m ∷ ms} F G p t bs ts a at st in_cells in-temps =
       and_then k
       (m.anew.handed k (named F.0.i) p t bs.0 ts.0 a.0 at.0 st.0 ((left_of (left_of in_cells)).read (whole k)) (left_of in-temps))
-      (hands_on k (beyond F) (beyond G) (suc p) (past m.anew.temps t) bs.1 ts.1 a.1 at.1 st.1 (right_of in_cells)
+      (hands_on k {ms = ms} (beyond F) (beyond G) (suc p) (past m.anew.temps t) bs.1 ts.1 a.1 at.1 st.1 (right_of in_cells)
       (right_of in-temps))

@@ -4,17 +4,18 @@ pub use mathlib.Core.Path.{◌≡◌, refl, sym, ap, subst}
 pub use Prim.Native.Nat.{ℕ, suc, ◌<◌, ◌^◌}
 pub use mathlib.Core.List.{[], ◌∷◌, ◌++◌, List}
 pub use seplogic.Ra.Ura.{Ura}
-pub use seplogic.Ra.TreeShare.{full_share}
-pub use mir.Syntax.{Name, Fn, Ty, Local, Body as Statements, w8, ty_int, ty_bool, place, copy, deref, field, rv_opd, op2, eq, int, cond, skip, seq, assign}
+pub use base.Fraction.{full_share}
+pub use mir.Syntax.{Callee, Fn, Ty, Local, Body as Statements, w8, ty_int, ty_bool, place, copy, deref, field, rv_opd, op2, eq, int, cond, skip, seq, assign}
 pub use mir.Syntax.{call, return, local, value_local}
 pub use mir.Val.{Val, vint}
 pub use base.Logic.{SProp, ent, sep, emp, via, fst∗, id⊢}
 pub use base.Fml.{fat, flft, fres, fshr_bor}
 pub use prog.Wp.{Heap, Calls, Loops, WpFn, Tables}
-pub use ghost.Atoms.{Atoms, sem}
+pub use ghost.Atoms.{Atoms}
+pub use types.Logic.{sem}
 pub use contract.Lifetimes.{Lfts, Shares, AllOutlive}
 pub use contract.Monad.{fact}
-pub use types.Kit.{Goal, Soaks, Seq, Given, Item, at_ret, ‵, raw, some, later, ◌⊛◌, ⋆, ◌$◌, ◌∵◌, !, qed, by, move, drop, use1, use2, split, split3, join}
+pub use types.Kit.{Goal, Soaks, Seq, Item, at_ret, ‵, raw, some, later, ◌⊛◌, ⋆, ◌$◌, ◌∵◌, !, qed, by, move, drop, use1, use2, split, split3, join}
 pub use types.Kit.{pick, rewrite, fsplit, fsplit3, fjoin, fjoin3, feq_i, suffices, frame, await, done}
 pub use types.Run.{look, look_raw, init, store_raw, stop, hop, fld, from, load, of_opd, bin, lit, and_then, assigns, assigns_last, first, branches, skips}
 pub use types.Run.{exec, land, returns, enter, alloc1, alloc0, params1, free0}

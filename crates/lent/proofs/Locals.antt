@@ -4,7 +4,7 @@ use mathlib.Core.Path.{◌≡◌, refl, sym, ap, subst}
 use Prim.Native.Nat.{ℕ, zero, suc}
 use mathlib.Core.List.{[], ◌∷◌, ◌++◌, List}
 use seplogic.Ra.Ura.{Ura}
-use seplogic.Ra.TreeShare.{full_share}
+use base.Fraction.{full_share}
 use lib.ListN.{get_or}
 use mir.Syntax.{Ty, ty_enum, ttnil, Step as PStep, place, Local, local}
 use mir.Val.{Val}
@@ -91,8 +91,8 @@ module _ {M : Type 1} {𝓤 : Ura M} {𝓛 : Logic 𝓤} {K : Type 0} where
   pub alloc_all : {Γ : List (Item 𝓤)} → K → (ls ls' : List Local) {Kt : Env 𝓤 H → Goal 𝓤 H}
       → ((bs : Spots ls) → Seq K 𝓛 (rooms 𝓤 ls bs ∷ Γ) (allocs ls' (λ E. Kt (env_in ls bs E)))) → Seq K 𝓛 Γ (allocs (ls ++ ls') Kt)
   alloc_all t [] ls' k = nothing t $ k tt
-  alloc_all t (local τ h ∷ ls) ls' k =
-      alloc1 t (λ b. alloc_all t ls ls' (λ bs. move t (1 ∷ 2 ∷ []) $ join t $ join t $ k (b, bs)))
+  alloc_all {Γ = Γ} t (local τ h ∷ ls) ls' k =
+      alloc1 t (λ b. alloc_all {Γ = ‵ (froom τ b 0) ∷ ‵ (fdies τ b) ∷ Γ} t ls ls' (λ bs. move t (1 ∷ 2 ∷ []) $ join t $ join t $ k (b, bs)))
 
   -- freed, whatever they hold
   pub gone : {Γ : List (Item 𝓤)} {E : Env 𝓤 H} {G : Goal 𝓤 H} → K → {τ : Ty} {b : ℕ} {v : Val}

@@ -30,10 +30,10 @@ as_it_is D τ val = record {
   handed = λ k ℓ p t b ts x e sits cell inside. load k (from_at k e (stop k)) cell;
 }
 
-abbrev anew_place : (X : Type 0) (τ : Ty) → Anew (Bor X) (λ ℓ. ty_ref ℓ mut τ) (λ x. vptr x.ptr.0 x.ptr.1)
+abbrev anew_place : (X : Type 0) (τ : Ty) → Anew (MutBor X) (λ ℓ. ty_ref ℓ mut τ) (λ x. vptr x.ref_ptr.0 x.ref_ptr.1)
 anew_place X τ = record {
   temps = local (ty_ref erased mut τ) value_local ∷ [];
-  filled = λ x. (vptr x.ptr.0 x.ptr.1, tt);
+  filled = λ x. (vptr x.ref_ptr.0 x.ref_ptr.1, tt);
   code = λ p t rest. seq (assign (place t []) (addr_of (place p (deref τ ∷ [])))) rest;
   hands = λ p t. t;
   lent = λ k ℓ p t b ts x typed e sits. step (λ s.
@@ -44,7 +44,7 @@ anew_place X τ = record {
   handed = λ k ℓ p t b ts x e sits cell inside. load k (from_at k sits.0 (stop k)) ((left_of (left_of inside)).read (whole k));
 }
 
-abbrev anew_slice : (X : Type 0) (τ : Ty) → Anew (Bor (List X)) (λ ℓ. slice_ty (ty_ref ℓ mut τ)) (λ x. slice_val x.ref_ptr (length x.now))
+abbrev anew_slice : (X : Type 0) (τ : Ty) → Anew (MutBor (List X)) (λ ℓ. slice_ty (ty_ref ℓ mut τ)) (λ x. slice_val x.ref_ptr (length x.now))
 anew_slice X τ = record {
   temps = local (ty_ref erased mut τ) value_local ∷ local (slice_ty (ty_ref erased mut τ)) value_local ∷ [];
   filled = λ x. (vptr x.ref_ptr.0 x.ref_ptr.1, (slice_val x.ref_ptr (length x.now), tt));
@@ -72,8 +72,10 @@ writes R = record {
   D = MutBor (List R.Denot);
   mir = λ ℓ. slice_ty (ty_ref ℓ mut (pointee R.written));
   reaches = (MutSlice erased [] R).reaches;
-  own_val = λ κ. (MutSlice erased κ R).own_val;
-  lasting = λ b. (MutSlice erased [] R).exit (λ _. b);
+  names = λ κ. (MutSlice erased κ R).lives;
+  own = λ κ. (MutSlice erased κ R).own_val;
+  shr_at = λ κ. (MutSlice erased κ R).shr_at;
+  lasting = λ κ b. (MutSlice erased κ R).exit (λ _. b);
   coded = (MutSlice erased [] R).coded;
   val = λ x. slice_val x.ref_ptr (length x.now);
   tells = λ κ. mut_slice_Tells erased κ R;
@@ -81,7 +83,10 @@ writes R = record {
   anew = anew_slice R.Denot (pointee R.written);
   View = List R.Denot;
   seen = λ x. x.now;
-  last = λ y. y.now;
+  last = λ κ y. y.now;
+  moved = λ κ κ' x z. z;
+  moved_seen = λ κ κ' x z. refl;
+  moved_left = λ κ x z. refl;
 }
 
 -- `&[R]`
@@ -91,8 +96,10 @@ reads R = record {
   D = Bor (List R.Denot);
   mir = λ ℓ. slice_ty (ty_ref ℓ imm (pointee R.written));
   reaches = (ShrSlice erased [] R).reaches;
-  own_val = λ κ. (ShrSlice erased κ R).own_val;
-  lasting = λ b. (ShrSlice erased [] R).exit (λ _. b);
+  names = λ κ. (ShrSlice erased κ R).lives;
+  own = λ κ. (ShrSlice erased κ R).own_val;
+  shr_at = λ κ. (ShrSlice erased κ R).shr_at;
+  lasting = λ κ b. (ShrSlice erased κ R).exit (λ _. b);
   coded = (ShrSlice erased [] R).coded;
   val = λ x. slice_val x.ref_ptr (length x.now);
   tells = λ κ. shr_slice_Tells erased κ R;
@@ -100,7 +107,10 @@ reads R = record {
   anew = as_it_is _ _ _;
   View = List R.Denot;
   seen = λ x. x.now;
-  last = λ y. y.now;
+  last = λ κ y. y.now;
+  moved = λ κ κ' x z. z;
+  moved_seen = λ κ κ' x z. refl;
+  moved_left = λ κ x z. refl;
 }
 
 -- a `usize`
@@ -110,8 +120,10 @@ number = record {
   D = ℕ;
   mir = λ ℓ. ty_int w64;
   reaches = [];
-  own_val = λ κ. usize.own_val;
-  lasting = λ b. usize.exit (λ _. b);
+  names = λ κ. usize.lives;
+  own = λ κ. usize.own_val;
+  shr_at = λ κ. usize.shr_at;
+  lasting = λ κ b. usize.exit (λ _. b);
   coded = usize.coded;
   val = λ x. vint w64 x;
   tells = λ κ. uint_Tells w64;
@@ -119,7 +131,10 @@ number = record {
   anew = as_it_is _ _ _;
   View = ℕ;
   seen = λ x. x;
-  last = λ y. y;
+  last = λ κ y. y;
+  moved = λ κ κ' x z. z;
+  moved_seen = λ κ κ' x z. refl;
+  moved_left = λ κ x z. refl;
 }
 
 -- `&mut E`
@@ -129,16 +144,21 @@ fills E = record {
   D = MutBor E.Denot;
   mir = λ ℓ. ty_ref ℓ mut (pointee E.written);
   reaches = (MutRef erased [] E).reaches;
-  own_val = λ κ. (MutRef erased κ E).own_val;
-  lasting = λ b. (MutRef erased [] E).exit (λ _. b);
+  names = λ κ. (MutRef erased κ E).lives;
+  own = λ κ. (MutRef erased κ E).own_val;
+  shr_at = λ κ. (MutRef erased κ E).shr_at;
+  lasting = λ κ b. (MutRef erased κ E).exit (λ _. b);
   coded = (MutRef erased [] E).coded;
-  val = λ x. vptr x.ptr.0 x.ptr.1;
+  val = λ x. vptr x.ref_ptr.0 x.ref_ptr.1;
   tells = λ κ. mut_Tells erased κ E;
   typed = λ ℓ κ x p. (tt, tt);
   anew = anew_place E.Denot (pointee E.written);
   View = E.Denot;
   seen = λ x. x.now;
-  last = λ y. y.now;
+  last = λ κ y. y.now;
+  moved = λ κ κ' x z. z;
+  moved_seen = λ κ κ' x z. refl;
+  moved_left = λ κ x z. refl;
 }
 
 -- `&E`
@@ -148,16 +168,21 @@ shown E = record {
   D = Bor E.Denot;
   mir = λ ℓ. ty_ref ℓ imm (pointee E.written);
   reaches = (ShrRef erased [] E).reaches;
-  own_val = λ κ. (ShrRef erased κ E).own_val;
-  lasting = λ b. (ShrRef erased [] E).exit (λ _. b);
+  names = λ κ. (ShrRef erased κ E).lives;
+  own = λ κ. (ShrRef erased κ E).own_val;
+  shr_at = λ κ. (ShrRef erased κ E).shr_at;
+  lasting = λ κ b. (ShrRef erased κ E).exit (λ _. b);
   coded = (ShrRef erased [] E).coded;
-  val = λ x. vptr x.ptr.0 x.ptr.1;
+  val = λ x. vptr x.ref_ptr.0 x.ref_ptr.1;
   tells = λ κ. shr_Tells erased κ E;
   typed = λ ℓ κ x p. (tt, tt);
   anew = as_it_is _ _ _;
   View = E.Denot;
   seen = λ x. x.now;
-  last = λ y. y.now;
+  last = λ κ y. y.now;
+  moved = λ κ κ' x z. z;
+  moved_seen = λ κ κ' x z. refl;
+  moved_left = λ κ x z. refl;
 }
 
 -- the buffers of a reader: open and finished cells, open and finished samples, the open snapshot and the two finished ones; and a record or bytes after them

@@ -2,12 +2,12 @@
 -- from some number on, and its callee names them from 0 on. Nothing else differs in the two signatures, so values, what they own and what is said of
 -- them pass from one to the other.
 -- Assumes nothing.
-use mathlib.Core.Path.{◌≡◌, refl, ap, subst}
+use mathlib.Core.Path.{◌≡◌, refl, sym, ap, subst, ◌∙◌}
 use Prim.Native.Nat.{ℕ, zero, suc}
 use mathlib.Core.Bool.{Bool, true, false}
 use mathlib.Core.List.{[], ◌∷◌, List}
 use seplogic.Ra.Ura.{Ura}
-use seplogic.Ra.TreeShare.{full_share}
+use base.Fraction.{full_share}
 use lib.Dec.{T}
 use mir.Syntax.{Lifetime, named, Ty, Written, wrote, Local, Body, copy, place}
 use mir.Val.{Val, has_ty, WT}
@@ -19,7 +19,7 @@ use types.Logic.{Logic, sem}
 use contract.Lifetimes.{Lfts}
 use types.Kit.{Item, ‵, Step, Post, runs}
 use types.Run.{Opd, Reads}
-use denote.Exit.{Exit, Seen, see, yes, left}
+use denote.Exit.{Exit, Last, Seen, see, yes, left}
 use denote.RattleType.{RattleType, Denots, Valss, owns}
 use denote.Laws.{Ises, Are, Spells, valss, Tellss}
 use denote.Shadow.{shadow}
@@ -43,14 +43,17 @@ pub record Anew (D : Type 0) (τ : Lifetime → Ty) (val : D → Val) : Type 3 w
       → (ℓ : Lifetime) (p t b : ℕ) (ts : Spots temps) (x : D) → At E p (τ ℓ) b → Sits E t temps ts → Reads K 𝓛 Γ (τ ℓ) b 0 (val x)
       → Inside K 𝓛 Γ (held 𝓤 temps ts (filled x)) → Opd K 𝓛 Γ E (copy (place (hands p t) [])) (val x)
 
--- a parameter of one machine value: its type at a lifetime, if it has one, and as what a clause sees it, handed in and at the end
+-- a parameter of one machine value: its type at a lifetime, if it has one, and as what a clause sees it, handed in and at the end.
+-- `names` is the lifetimes that a value names, `shr_at` what a `&` to one holds
 pub record More : Type 3 where
   pub lives : Bool
   pub D : Type 0
   pub mir : Lifetime → Ty
   pub reaches : List (Written × List Ty)
+  pub names : Lft → Lft
   pub own : Lft → D → List Val → Fml
-  pub lasting : Bool → Exit D
+  pub shr_at : Lft → D → ℕ → ℕ → Lft → Fml
+  pub lasting : Lft → Bool → Exit D
   pub coded : Coded D
   pub val : D → Val
   pub tells : (κ : Lft) (x : D) (vs : List Val) → shadow (own κ x vs) → vs ≡ val x ∷ []
@@ -58,7 +61,12 @@ pub record More : Type 3 where
   pub anew : Anew D mir val
   pub View : Type 0
   pub seen : D → View
-  pub last : Seen (lasting true) → View
+  pub last : (κ : Lft) → Seen (lasting κ true) → View
+  -- what is bound for it at the end is the same at whichever lifetime it stands, and seen alike
+  pub moved : (κ κ' : Lft) (x : D) → Last (lasting κ true) x → Last (lasting κ' true) x
+  pub moved_seen : (κ κ' : Lft) (x : D) (z : Last (lasting κ true) x)
+      → last κ' (see (lasting κ' true) x (moved κ κ' x z)) ≡ last κ (see (lasting κ true) x z)
+  pub moved_left : (κ : Lft) (x : D) (z : Last (lasting κ true) x) → left (lasting κ true) x (moved κ κ x z) ≡ left (lasting κ true) x z
 
 abbrev row_at : More → Lifetime → Lft → RattleType
 row_at m ℓ κ = record {
@@ -66,9 +74,11 @@ row_at m ℓ κ = record {
   mir = m.mir ℓ ∷ [];
   written = wrote (m.mir ℓ);
   reaches = m.reaches;
+  lives = m.names κ;
   own_val = m.own κ;
-  exit = λ k. m.lasting (k ℓ);
+  exit = λ k. m.lasting κ (k ℓ);
   coded = m.coded;
+  shr_at = m.shr_at κ;
 }
 
 -- ---- the lifetimes of a list
@@ -149,7 +159,7 @@ ins {ms = m ∷ ms} F a = (m.seen a.0, ins (beyond F) a.1)
 
 abbrev pub ends : {ms : List More} (F : Has ms) → Left F → Views ms
 ends {ms = []} F e = tt
-ends {ms = m ∷ ms} F e = (m.last e.0, ends (beyond F) e.1)
+ends {ms = m ∷ ms} F e = (m.last (own_at F) e.0, ends (beyond F) e.1)
 
 -- ---- from one signature to another
 abbrev pub Lasting : {ms : List More} (F : Has ms) → Passed F → Type 0
@@ -164,7 +174,7 @@ to {ms = m ∷ ms} F G a = (a.0, to (beyond F) (beyond G) a.1)
 
 abbrev pub back : {ms : List More} (F G : Has ms) (a : Passed F) → Lasting G (to F G a) → Lasting F a
 back {ms = []} F G a z = tt
-back {ms = m ∷ ms} F G a z = (z.0, back (beyond F) (beyond G) a.1 z.1)
+back {ms = m ∷ ms} F G a z = (m.moved (own_at G) (own_at F) a.0 z.0, back (beyond F) (beyond G) a.1 z.1)
 
 same_ins : {ms : List More} (F G : Has ms) (a : Passed F) → ins G (to F G a) ≡ ins F a
 same_ins {ms = []} F G a = refl
@@ -173,7 +183,10 @@ same_ins {ms = m ∷ ms} F G a = ap (λ (v : Views ms). (m.seen a.0, v)) (same_i
 same_ends : {ms : List More} (F G : Has ms) (a : Passed F) (z : Lasting G (to F G a)) → ends G (lefts G (to F G a) z) ≡ ends F (lefts F a (back F G a z))
 same_ends {ms = []} F G a z = refl
 same_ends {ms = m ∷ ms} F G a z =
-    ap (λ (v : Views ms). (m.last (see (m.lasting true) a.0 z.0), v)) (same_ends (beyond F) (beyond G) a.1 z.1)
+    let e : m.View = m.last (own_at G) (see (m.lasting (own_at G) true) a.0 z.0) in
+    ap (λ (v : Views ms). (e, v)) (same_ends (beyond F) (beyond G) a.1 z.1)
+    ∙ ap (λ (u : m.View). (u, ends (beyond F) (lefts (beyond F) a.1 (back (beyond F) (beyond G) a.1 z.1))))
+    (sym (m.moved_seen (own_at G) (own_at F) a.0 z.0))
 
 pub same_said : {ms : List More} (F G : Has ms) (P : Views ms → Views ms → Type 0) (a : Passed F) (z : Lasting G (to F G a))
     → P (ins G (to F G a)) (ends G (lefts G (to F G a) z)) → P (ins F a) (ends F (lefts F a (back F G a z)))
@@ -215,7 +228,15 @@ module _ {M : Type 1} {𝓤 : Ura M} (𝓛 : Logic 𝓤) where
       (id⊢ 𝓤 _))
       (owns_to (beyond F) (beyond G) (ap (theirs m.lives (count ms)) e) a.1)
 
-  pub lasts_back : {ms : List More} (F G : Has ms) (a : Passed F) (z : Lasting G (to F G a))
+  pub lasts_back : {ms : List More} (F G : Has ms) → F.0.at F.1 ≡ G.0.at G.1 → (a : Passed F) (z : Lasting G (to F G a))
       → ent 𝓤 (sem 𝓛 (lasting G (to F G a) z)) (sem 𝓛 (had F a (back F G a z)))
-  lasts_back {ms = []} F G a z = id⊢ 𝓤 _
-  lasts_back {ms = m ∷ ms} F G a z = mono∗ 𝓤 (id⊢ 𝓤 (sem 𝓛 (left (m.lasting true) a.0 z.0))) (lasts_back (beyond F) (beyond G) a.1 z.1)
+  lasts_back {ms = []} F G e a z = id⊢ 𝓤 _
+  lasts_back {ms = m ∷ ms} F G e a z =
+      let κ = own_at G in
+      let L : Fml = left (m.lasting κ true) a.0 z.0 in
+      mono∗ 𝓤
+      (subst
+      (λ (κs : Lfts (count (m ∷ ms))).
+      ent 𝓤 (sem 𝓛 L) (sem 𝓛 (left (m.lasting (mine m.lives (count ms) κs) true) a.0 (m.moved κ (mine m.lives (count ms) κs) a.0 z.0)))) (sym e)
+      (subst (λ (P : Fml). ent 𝓤 (sem 𝓛 L) (sem 𝓛 P)) (sym (m.moved_left κ a.0 z.0)) (id⊢ 𝓤 (sem 𝓛 L))))
+      (lasts_back (beyond F) (beyond G) (ap (theirs m.lives (count ms)) e) a.1 z.1)

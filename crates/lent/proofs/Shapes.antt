@@ -9,7 +9,7 @@ use Rattle.lent.proofs.Kit.{Soaks, Seq, Item, ‵, raw, some, later, ◌⊛◌, 
 use Rattle.lent.proofs.Kit.{Spells, valss, Tellss, RattleType, Slot, plain, all, yes, Contract, type_at, types_at, heard, Args, Res, AtExit, at_exit}
 use Rattle.lent.proofs.Kit.{alive, on_entry, Meets, triple_of, Ended, Clauses, closing, Lasts, ensured, lasts, Stays, walk_of, AllGo, AllOutlive, walked}
 use Rattle.lent.proofs.Kit.{walk_Meets, Bound}
-use types.Logic.{Logic}
+use package.types.Logic.{Logic}
 
 -- parameters in a signature that has their lifetimes alone
 abbrev pub alone : (ms : List More) → Named ms
@@ -35,6 +35,8 @@ called ms Rs R = record {
 abbrev pub function : List More → List Local → Statements → Fn
 function ms ls b = record {
   lifetimes = count ms;
+  ty_params = [];
+  givens = 0;
   outlives = [];
   params = past (params ms 0) 0;
   locals = local (ty_int w8) value_local ∷ (params ms 0 ++ ls);

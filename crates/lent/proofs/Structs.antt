@@ -63,6 +63,7 @@ type_of {Ss} o =
     (record {
       name = o.name;
       args = [];
+      types = [];
       parts = u8-field ∷ fields_of Ss;
       D = o.D;
       as_values = o.values;

@@ -33,8 +33,9 @@ struct Read {
 }
 
 // Takes all whole records of the input, or ends when nothing can be written any more. A proved loop has to end, and nothing says
-// that a file does: it counts its turns down, from a number that no run uses up.
+// that a file does: it counts its turns, up to a number that no run reaches.
 fn read_all(
+    rt: &HostRuntime,
     run: Run,
     state: State,
     bytes: &mut [u8],
@@ -49,9 +50,11 @@ fn read_all(
 ) -> Read {
     let mut run = run;
     let mut state = state;
-    let mut turns = u64::MAX;
-    while turns > 0 && run.goes_on {
-        run = run::refill(run, bytes);
+    for _ in 0..u64::MAX {
+        if !run.goes_on {
+            break;
+        }
+        run = run::refill(rt, run, bytes);
         let have = within(run.have, bytes);
         let fed = feed::feed(
             state,
@@ -67,8 +70,7 @@ fn read_all(
         );
         let next = fed.state;
         state = next;
-        run = run::tell(run, fed, page);
-        turns -= 1;
+        run = run::tell(rt, run, fed, page);
     }
     Read {
         run: run,
@@ -78,6 +80,7 @@ fn read_all(
 
 // What finish closes, and the last line. Answers whether all could be read and written.
 fn end_listing(
+    rt: &HostRuntime,
     run: Run,
     state: State,
     page: &mut [u8],
@@ -99,11 +102,11 @@ fn end_listing(
         first_snapshot,
         second_snapshot,
     );
-    run::end(run, finished, page)
+    run::end(rt, run, finished, page)
 }
 
 // The listing of all that can be read; answers whether that was everything.
-fn list(from_files: bool, verbose: bool) -> bool {
+fn list(rt: &HostRuntime, from_files: bool, verbose: bool) -> bool {
     let mut bytes = [0u8; INPUT];
     let mut page = [0u8; OUTPUT];
     let mut open_cells = [0u8; cells::CELLS_SIZE];
@@ -115,6 +118,7 @@ fn list(from_files: bool, verbose: bool) -> bool {
     let mut second_snapshot = [0u8; bursts::SNAPSHOT];
     let begun = run::begin(from_files, verbose, &mut page);
     let read = read_all(
+        rt,
         begun,
         state::fresh(),
         &mut bytes,
@@ -127,8 +131,9 @@ fn list(from_files: bool, verbose: bool) -> bool {
         &mut first_snapshot,
         &mut second_snapshot,
     );
-    let run = run::tell_rest(read.run, &bytes);
+    let run = run::tell_rest(rt, read.run, &bytes);
     end_listing(
+        rt,
         run,
         read.state,
         &mut page,
@@ -143,14 +148,14 @@ fn list(from_files: bool, verbose: bool) -> bool {
 }
 
 // Runs the program and answers its status: 0 good, 1 not all could be read or written, 2 an unknown option.
-pub fn perform() -> u8
+pub fn perform(rt: &HostRuntime) -> u8
     ensures { result ≤ 2 }
 {
-    let start = said::begin();
+    let start = said::begin(rt);
     if !start.goes_on {
         return start.status;
     }
     let options = start.options;
     let given = options.given;
-    programs::status(list(options.files, given[VERBOSE]))
+    programs::status(list(rt, options.files, given[VERBOSE]))
 }

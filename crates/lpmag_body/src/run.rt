@@ -45,9 +45,9 @@ fn is_full(page: &[u8], made: usize) -> bool {
 }
 
 // Once something couldn't be written nothing more is, and nothing more is read.
-fn write_page(run: Run, page: &[u8]) -> Run {
+fn write_page(rt: &HostRuntime, run: Run, page: &[u8]) -> Run {
     let mut run = run;
-    if run.all_written && !programs::write_page(&NAME, page, run.made) {
+    if run.all_written && !programs::write_page(rt, &NAME, page, run.made) {
         run.all_written = false;
         run.goes_on = false;
     }
@@ -55,26 +55,30 @@ fn write_page(run: Run, page: &[u8]) -> Run {
     run
 }
 
-fn make_room(run: Run, page: &[u8]) -> Run {
+fn make_room(rt: &HostRuntime, run: Run, page: &[u8]) -> Run {
     if !is_full(page, run.made) {
         return run;
     }
-    write_page(run, page)
+    write_page(rt, run, page)
 }
 
 // The record that begins at place `from` of the bytes at hand was refused.
-fn tell_refusal(run: Run, from: usize, rule: u8) -> Run {
+fn tell_refusal(rt: &HostRuntime, run: Run, from: usize, rule: u8) -> Run {
     let mut run = run;
     run.refused = std::num::wrapping_add_u64(run.refused, 1);
     if run.verbose {
-        said::refusal(std::num::wrapping_add_u64(run.begins, from as u64), rule);
+        said::refusal(
+            rt,
+            std::num::wrapping_add_u64(run.begins, from as u64),
+            rule,
+        );
     }
     run
 }
 
 // What the last record taken has to tell.
-pub(crate) fn tell(run: Run, fed: Fed, page: &mut [u8]) -> Run {
-    let mut run = make_room(run, page);
+pub(crate) fn tell(rt: &HostRuntime, run: Run, fed: Fed, page: &mut [u8]) -> Run {
+    let mut run = make_room(rt, run, page);
     run.at = fed.at;
     if !run.all_written {
         return run;
@@ -83,7 +87,7 @@ pub(crate) fn tell(run: Run, fed: Fed, page: &mut [u8]) -> Run {
     if fed.rule == 0 {
         return run;
     }
-    tell_refusal(run, fed.from, fed.rule)
+    tell_refusal(rt, run, fed.from, fed.rule)
 }
 
 // The rest below a record comes to the front.
@@ -96,40 +100,41 @@ fn keep_rest(run: Run, bytes: &mut [u8]) -> Run {
 }
 
 // Where no whole record is at hand any more, one read is made behind the rest.
-pub(crate) fn refill(run: Run, bytes: &mut [u8]) -> Run {
+pub(crate) fn refill(rt: &HostRuntime, run: Run, bytes: &mut [u8]) -> Run {
     if feed::is_whole(run.have, run.at) {
         return run;
     }
     let mut run = keep_rest(run, bytes);
     let have = within(run.have, bytes);
-    let input = programs::read(run.source, &NAME, &mut bytes[have..]);
+    let input = programs::read(rt, run.source, &NAME, &mut bytes[have..]);
     let source = input.source;
+    run.goes_on = source.goes_on;
     run.source = source;
     run.have = std::num::wrapping_add_usize(have, input.got);
-    run.goes_on = source.goes_on;
     run
 }
 
 // "A short tail of the input is one record refused with 2." No byte is no record. Rule 1 comes before, and holds: state and buffers
 // are the program's own. More than a rest is left only where output failed, and then nothing more is told.
-pub(crate) fn tell_rest(run: Run, bytes: &[u8]) -> Run {
+pub(crate) fn tell_rest(rt: &HostRuntime, run: Run, bytes: &[u8]) -> Run {
     let have = within(run.have, bytes);
     let rest = feed::cut(&bytes[..have], run.at);
     if rest.len() == 0 || !run.all_written {
         return run;
     }
+    let from = run.at;
     let verdict = record::check(rest);
     match verdict {
-        Verdict::Refused(n) => tell_refusal(run, run.at, n),
+        Verdict::Refused(n) => tell_refusal(rt, run, from, n),
         Verdict::Passes => run,
     }
 }
 
 // What finish closes, and the last line. Answers whether all could be read and written.
-pub(crate) fn end(run: Run, finished: Finished, page: &mut [u8]) -> bool {
-    let mut run = make_room(run, page);
+pub(crate) fn end(rt: &HostRuntime, run: Run, finished: Finished, page: &mut [u8]) -> bool {
+    let mut run = make_room(rt, run, page);
     run.made = listing::put_closed(finished.closed, page, run.made);
     run.made = listing::put_refused(run.refused, page, run.made);
-    let ended = write_page(run, page);
+    let ended = write_page(rt, run, page);
     ended.all_written && ended.source.all_read
 }

@@ -2,14 +2,14 @@
 ghost use Rattle.std.specs.Prelude.{◌≤◌};
 
 use crate::{LETTERS, NAME};
-use libc::STDERR_FILENO;
 use programs::{Start, within};
 
 // The options, or what there is to say in place of a listing.
-pub(crate) fn begin() -> Start
+pub(crate) fn begin(rt: &HostRuntime) -> Start
     ensures { result.status ≤ 2 }
 {
     programs::begin(
+        rt,
         &NAME,
         &LETTERS,
         b"lpmag [-v] [FILE]...
@@ -35,11 +35,11 @@ Counts go on where those of the records restart at 0: 16777216 more each time.
     )
 }
 
-// The record that begins at the offset was refused.
-pub(crate) fn refusal(offset: u64, rule: u8) {
+// The record that begins at the offset was refused. Where standard error can't be written there is nobody to tell.
+pub(crate) fn refusal(rt: &HostRuntime, offset: u64, rule: u8) {
     let mut line = [0u8; listing::REFUSAL];
     let number = offset / record::Record::SIZE as u64;
     let length = listing::put_refusal(number, offset, rule, &mut line, 0);
     let end = within(length, &line);
-    io::write_all(STDERR_FILENO, &line[..end]);
+    let _ = rt.stderr().write_all(&line[..end]);
 }

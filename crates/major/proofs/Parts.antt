@@ -12,15 +12,12 @@ use borrow.Author.Tests.{eqb-true}
 use Rattle.prelude.specs.Marks.{bit_set, marked}
 use Rattle.prelude.proofs.Conds.{two}
 use Rattle.prelude.proofs.Marks.{weight, bits_above, below}
-use Rattle.major.specs.Major.{slot_of, no_major, continues, into, stays, major_renews, step_major}
+use Rattle.major.specs.Major.{slot_of, continues, into, stays, major_renews, step_major}
 use Rattle.major.specs.Place.{Free, slot_free, leaves, stepped_at, SteppedIs}
 use Rattle.major.specs.declared.Major.{Major}
 use Rattle.major.specs.declared.MajorStep.{MajorStep}
 
--- a new frame has room for any slot, and a mark fits 16 bits beside those below it
-pub free_none : (m : Major) (d : ℕ) → m ≡ no_major → Free m d
-free_none m d e = rw e (pow_pos (slot_of d), λ i h l. bits_above 0 i (pow_pos i))
-
+-- a mark fits 16 bits beside those below it
 pub mark_fits : (n d : ℕ) → n < 2 ^ slot_of d → n + 1 * 2 ^ slot_of d % 2 ^ 16 < 2 ^ 16
 mark_fits n d h = rw (weight 16 (slot_of d) (omega arith)) (omega (arith, pow_mono {i = slot_of d} {j = 15} (omega arith)))
 

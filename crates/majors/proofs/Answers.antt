@@ -48,18 +48,12 @@ module _ (samples : List ℤ) (s k : ℕ) where
     pub slot : s < slots
     pub number : k < samples_size
 
-  pub place_so : (b : Bool) → b ≡ is_place samples s k → not b ≡ false → is_place samples s k ≡ true
-  place_so b e h = cc (not-false b h)
-
   pub is_place_lem : is_place samples s k ≡ true → Place
   unfolding is_place
   is_place_lem e =
       let x = two (eqb (length samples) major_samples) (ltb s slots && ltb k samples_size) e in
       let y = two (ltb s slots) (ltb k samples_size) x.1 in
       record { size = eqb-true (length samples) major_samples x.0; slot = ltb-true s slots y.0; number = ltb-true k samples_size y.1 }
-
-  pub place_at : (b : Bool) → b ≡ is_place samples s k → not b ≡ false → Place
-  place_at b e h = is_place_lem (place_so b e h)
 
 module _ (m : Major) (samples : List ℤ) (s k : ℕ) where
   -- by the two tests

@@ -26,9 +26,10 @@ pub fn status(all: bool) -> u8
 }
 
 // What the program says of itself, and then what holds of all programs. Answers whether it could be written.
-fn explain(program: &[u8], help: &[u8]) -> bool {
-    output::write_text(program, help)
+fn explain(rt: &HostRuntime, program: &[u8], help: &[u8]) -> bool {
+    output::write_text(rt, program, help)
         && output::write_text(
+            rt,
             program,
             b"  -h   prints this
 
@@ -42,10 +43,10 @@ The status is 0, 1 if not all could be read or written, 2 for an unknown option.
 }
 
 // Reads the options: each that isn't known is named on standard error, and `-h` prints the help.
-pub fn begin(program: &[u8], letters: &[u8], help: &[u8]) -> Start
+pub fn begin(rt: &HostRuntime, program: &[u8], letters: &[u8], help: &[u8]) -> Start
     ensures { result.status ≤ 2 }
 {
-    let options = options::read(program, letters);
+    let options = options::read(rt, program, letters);
     if options.wrong {
         return Start {
             options: options,
@@ -57,7 +58,7 @@ pub fn begin(program: &[u8], letters: &[u8], help: &[u8]) -> Start
         return Start {
             options: options,
             goes_on: false,
-            status: status(explain(program, help)),
+            status: status(explain(rt, program, help)),
         };
     }
     Start {

@@ -1,39 +1,106 @@
 // What a program says of a failure, on standard error, after its own name.
-ghost use Rattle.io.specs.Counts.{IsPrefixLen};
+ghost use Rattle.std.specs.Prelude.{◌≡◌, ◌≤◌, length, min, take};
 
-use libc::STDERR_FILENO;
+use std::fmt;
+use std::fmt::Write;
+use std::io::Error;
 
 // Room for a name of PATH_MAX bytes and the words around it.
 const SENTENCE: usize = 4352;
 
-// errno's text follows.
-pub(crate) fn complain(program: &[u8], name: &[u8], what: &[u8]) {
-    let mut sentence = [0u8; SENTENCE];
-    let after_program = program.len();
-    let colon = b": ";
-    let before_name = std::num::wrapping_add_usize(after_program, colon.len());
-    let after_name = std::num::wrapping_add_usize(before_name, name.len());
-    let length = std::num::wrapping_add_usize(after_name, what.len());
-    buffers::lay(program, &mut sentence, 0);
-    buffers::lay(colon, &mut sentence, after_program);
-    buffers::lay(name, &mut sentence, before_name);
-    buffers::lay(what, &mut sentence, after_name);
-    let end = within(length, &sentence);
-    os::fail(&sentence[..end]);
+// Room for an error's text.
+const TEXT: usize = 256;
+
+// A line, put together first, so that it is written at once.
+#[derive(Drop)]
+struct Sentence {
+    bytes: [u8; SENTENCE],
+    length: usize,
 }
 
-pub(crate) fn unknown(program: &[u8], option: &[u8]) {
-    io::write_all(STDERR_FILENO, program);
-    io::write_all(STDERR_FILENO, b": unknown option ");
-    io::write_all(STDERR_FILENO, option);
-    io::write_all(STDERR_FILENO, b"; ");
-    io::write_all(STDERR_FILENO, program);
-    io::write_all(STDERR_FILENO, b" -h explains\n");
+// An error as std tells it.
+#[derive(Drop)]
+struct Text {
+    bytes: [u8; TEXT],
+    length: usize,
+}
+
+impl fmt::Write for Text {
+    fn write_str(&mut self, piece: &str) -> fmt::Result {
+        let bytes = piece.as_bytes();
+        buffers::lay(bytes, &mut self.bytes, self.length);
+        self.length = std::num::wrapping_add_usize(self.length, bytes.len());
+        Ok(())
+    }
+}
+
+// The system's own words for an error, without the number that std sets behind them.
+fn words(text: &str) -> &str {
+    match text.rsplit_once(" (os error ") {
+        Some((words, _)) => words,
+        None => text,
+    }
+}
+
+fn begun() -> Sentence {
+    Sentence {
+        bytes: [0; SENTENCE],
+        length: 0,
+    }
+}
+
+fn put(sentence: &mut Sentence, bytes: &[u8]) {
+    buffers::lay(bytes, &mut sentence.bytes, sentence.length);
+    sentence.length = std::num::wrapping_add_usize(sentence.length, bytes.len());
+}
+
+fn put_error(sentence: &mut Sentence, error: Error) {
+    let mut text = Text {
+        bytes: [0; TEXT],
+        length: 0,
+    };
+    let _ = write!(text, "{error}");
+    let end = within(text.length, &text.bytes);
+    if let Ok(all) = str::from_utf8(&text.bytes[..end]) {
+        put(sentence, words(all).as_bytes());
+    }
+}
+
+// Where standard error can't be written there is nobody to tell.
+fn say(rt: &HostRuntime, sentence: Sentence) {
+    let end = within(sentence.length, &sentence.bytes);
+    let _ = rt.stderr().write_all(&sentence.bytes[..end]);
+}
+
+// The error's text follows.
+pub(crate) fn complain(rt: &HostRuntime, program: &[u8], name: &[u8], what: &[u8], error: Error) {
+    let mut sentence = begun();
+    put(&mut sentence, program);
+    put(&mut sentence, b": ");
+    put(&mut sentence, name);
+    put(&mut sentence, what);
+    put(&mut sentence, b": ");
+    put_error(&mut sentence, error);
+    put(&mut sentence, b"\n");
+    say(rt, sentence);
+}
+
+pub(crate) fn unknown(rt: &HostRuntime, program: &[u8], option: &[u8]) {
+    let mut sentence = begun();
+    put(&mut sentence, program);
+    put(&mut sentence, b": unknown option ");
+    put(&mut sentence, option);
+    put(&mut sentence, b"; ");
+    put(&mut sentence, program);
+    put(&mut sentence, b" -h explains\n");
+    say(rt, sentence);
 }
 
 // The number, or that of all the bytes where it is more.
 pub fn within(n: usize, bytes: &[u8]) -> usize
-    ensures { IsPrefixLen result bytes.now }
+    ensures in_bounds { result ≤ length bytes.now }
+    ensures prefix { result ≡ length (take result bytes.now) }
+    ensures value { result ≡ min n (length bytes.now) }
 {
     if n <= bytes.len() { n } else { bytes.len() }
 }

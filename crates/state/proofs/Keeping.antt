@@ -20,11 +20,10 @@ use Rattle.snapshot.specs.Snapshot.{no_snapshot}
 use Rattle.snapshot.specs.declared.Snapshot.{Snapshot}
 use Rattle.snapshot.proofs.Keeping as snapshot
 use Rattle.state.specs.Soundness.{fresh, sound}
-use Rattle.state.specs.Deciding.{Input, fields_of, count_at, mag_range, clock_holds, turn_holds, number_of, acceptance, decided_of}
+use Rattle.state.specs.Deciding.{Input, fields_of, count_at, mag_range, clock_holds, turn_holds, number_of, acceptance}
 use Rattle.state.specs.Ending.{ending, unended, ended_of}
 use Rattle.state.specs.Keeping.{Sound, StepKeeps, EndKeeps}
 use Rattle.state.specs.declared.State.{State}
-use Rattle.state.specs.declared.deciding.Decided.{Decided}
 use Rattle.state.proofs.Facts.{SoundParts, facts, is_sound}
 use Rattle.state.proofs.Decisions.{accepted_is, refused_is}
 use Rattle.state.proofs.Told.{Passed, all_pass, science_type}

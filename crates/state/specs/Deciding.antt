@@ -1,7 +1,7 @@
 -- What a record decides, from the state, the buffers' sizes and the record alone (01, "Joining accumulations", "Numbers a refused
 -- record gets"; 02, requests 1 and 2).
 -- Assumes nothing.
-use Rattle.std.specs.Prelude.{ℕ, ◌<◌, Bool, true, cond, ◌&&◌, List, [], ◌∷◌, ◌++◌, ◌≡◌, eqb}
+use Rattle.std.specs.Prelude.{ℕ, Bool, cond, ◌&&◌, List, [], ◌∷◌, ◌++◌, ◌≡◌, eqb}
 use Rattle.prelude.specs.Rules.{Rule, rule, of_part, first_broken}
 use Rattle.record.specs.Layout.{packet_bytes, mag_bytes}
 use Rattle.record.specs.Frame.{carries_mag, carries_science, first_burst}

@@ -1,9 +1,8 @@
 -- `feed::feeding::feed`: after each turn what is left to do comes to the same end, with one whole record fewer.
 -- Assumes nothing.
 use Rattle.std.proofs.Common.{◌≡◌}
-use Rattle.reader.specs.Buffers.{Buffers, buffers}
+use Rattle.reader.specs.Buffers.{buffers}
 use Rattle.feed.specs.Feeding.{feed_all, desk, whole_from}
-use Rattle.feed.specs.declared.feeding.Fed.{Fed}
 use Rattle.feed.proofs.feeding.feed.Given as goal
 
 abbrev pub invariant-loop-open_cells : goal.invariant-loop-open_cells
