@@ -1,2 +1,1 @@
-pub mod Seconds
 pub mod Single

@@ -7,7 +7,7 @@ use Prim.Native.Nat.{ℕ, ◌+◌, ◌*◌, ◌-◌, ◌%◌, ◌/◌, ◌<◌, 
 use native.Mathlib.Omega.{arith}
 use lib.Dec.{T, eqb, ltb, eqb→eq, ltb→lt}
 use lib.ListN.{length}
-use borrow.Author.Tests.{eq-eqb, ne_eqb, lt-ltb, le-ltb, ltb-true, ltb-false}
+use borrow.Author.Tests.{eq-eqb, ne_eqb, ltb-true, ltb-false}
 use Rattle.prelude.proofs.Conds.{cases}
 use Rattle.prelude.specs.Upto.{both, upto}
 use Rattle.prelude.proofs.Upto.{both_left, both_right, upto_at}
@@ -165,13 +165,6 @@ rest_is x h =
 
 pub sample_is : (p : ℕ) → 4 ≤ p → p < three_d → sample_in ((p - 4) / 16) ≡ carrier p
 sample_is p l h = sym (carrier_is p (omega arith) ∙ in_samples p l h)
-
--- a cell below 4 or from 1,668 on as a cell beside the samples
-pub header_rest : (p : ℕ) → p < 4 → rest_cell p ≡ p
-header_rest p h = rw lt-ltb
-
-pub three_rest : (p : ℕ) → three_d ≤ p → rest_cell (p - 1664) ≡ p
-three_rest p h = rw (le-ltb (p - 1664) 4 (omega arith)) (omega arith)
 
 -- no type above 36 is ever named
 pub carrier_small : (p : ℕ) → carrier p ≤ types

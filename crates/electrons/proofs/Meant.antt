@@ -1,4 +1,4 @@
--- What a raw byte leads to, of an accumulation or of a snapshot: the counts of a byte, and the answer where it may not be there.
+-- What a raw byte leads to, of an accumulation or of a snapshot: the answer from a byte that there is, and where it may not be there.
 -- Assumes nothing.
 use mathlib.Core.Path.{◌≡◌, refl, subst⁻¹, ◌∙◌}
 use mathlib.Core.Bool.{Bool, true, false, cond, ◌&&◌, ◌||◌}
@@ -15,14 +15,8 @@ use Rattle.cells.specs.declared.raw.Raw.TheVariants as raw
 use Rattle.electrons.specs.Meaning.{meaning}
 use Rattle.electrons.specs.Questions.{count_said, counts_given, CountIs, count_asked}
 use Rattle.electrons.specs.declared.questions.Count.{Count}
-use Rattle.electrons.specs.declared.questions.Count.TheVariants.{Within}
 use Rattle.electrons.specs.declared.scale.Scale.{Scale}
 use Rattle.electrons.specs.declared.scale.Scale.TheVariants.{Known, Unknown}
-
--- a byte whose scale is known
-pub counted_told : (w : Raw) (k : Scale) (code : ℕ) (d : Divided) (r : Range) → w ≡ raw.Byte code → k ≡ Known d → r ≡ range_of code d
-    → Within r ≡ meaning w k
-counted_told w k code d r ew ek er = cc
 
 -- the answer from a byte that there is: whether it may be asked for, is held, needs no scale, or has it
 pub meant : (x y n h : Bool) (code : ℕ) (d : Divided)

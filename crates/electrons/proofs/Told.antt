@@ -34,9 +34,6 @@ by_state raw.Absent b = Unknown
 by_state raw.NoSuchPlace b = Unknown
 
 module _ (c : List ℕ) (held b : ℕ) where
-  pub never_scaled : scalable b ≡ false → Known By1 ≡ scale_of c held b
-  never_scaled e = rw e
-
   pub by_state_lem : scalable b ≡ true → by_state (cell_of c held 1) b ≡ scale_of c held b
   unfolding raw_of
   by_state_lem e = rw e (go (askable c held) (holds_cell held 1))

@@ -1,26 +1,24 @@
--- What the code's steps lead to: where an angle of an energy step stands, the answer about a place, and about a magnetic sample.
+-- What the code's steps lead to: where an angle of an energy step stands, the answer about a place, and where no magnetic sample is.
 -- Assumes nothing.
-use mathlib.Core.Path.{◌≡◌, refl, sym, subst, ◌∙◌}
-use mathlib.Core.Bool.{Bool, true, cond, ◌&&◌, and-false}
+use mathlib.Core.Path.{◌≡◌, refl}
+use mathlib.Core.Bool.{Bool, true, cond, and-false}
 use mathlib.Core.List.{List}
 use Prim.Native.Nat.{ℕ, ◌+◌, ◌*◌, ◌<◌, ◌≤◌}
 use native.Mathlib.Nat.{mul-le-mul_right}
 use native.Mathlib.Omega.{arith}
 use lib.Dec.{ltb}
 use lib.ListN.{get_or}
-use borrow.Author.Tests.{lt-ltb, le-ltb, ltb-true}
+use borrow.Author.Tests.{le-ltb, ltb-true}
 use Rattle.prelude.proofs.Conds.{two}
 use Rattle.counts.specs.declared.codes.Divided.{Divided}
 use Rattle.bursts.specs.Bursts.{snapshot_size, angles_part}
-use Rattle.cells.specs.Bytes.{RawIs}
-use Rattle.cells.specs.declared.raw.Raw.{Raw}
 use Rattle.cells.specs.declared.raw.Raw.TheVariants as raw
 use Rattle.cells.proofs.Bytes.{not_there}
 use Rattle.electrons.specs.Questions.{CountIs}
 use Rattle.electrons.specs.declared.questions.Count.{Count}
 use Rattle.electrons.proofs.Meant.{asked_told}
 use Rattle.snapshots.specs.Questions.{asked_at, has_angle, angle_byte}
-use Rattle.snapshots.specs.Raw.{holds_byte, askable, ByteIs, mag_angle_byte, is_mag_angle, MagAngleIs}
+use Rattle.snapshots.specs.Raw.{holds_byte, askable, is_mag_angle, MagAngleIs}
 use Rattle.snapshots.specs.Inner.Places.{raw_byte, counted_at}
 
 -- the steps before one, 14 at most
@@ -41,8 +39,3 @@ told s held p d t i q x e = asked_told (askable s held) (holds_byte held) (λ k.
 module _ (s : List ℕ) (held k : ℕ) where
   pub no_angle : angles_part.size ≤ k → MagAngleIs s held k raw.NoSuchPlace
   no_angle h = not_there (is_mag_angle s held k) _ _ (rw (le-ltb k angles_part.size h) (and-false (askable s held)))
-
-  pub angle_told : k < angles_part.size → (r : Raw) → ByteIs s held (mag_angle_byte k) r → MagAngleIs s held k r
-  angle_told h r =
-      let e = lt-ltb (mag_angle_byte k) snapshot_size (omega arith) ∙ sym (lt-ltb k angles_part.size h) in
-      subst (λ (t : Bool). RawIs (askable s held && t) (holds_byte held (mag_angle_byte k)) (get_or s (mag_angle_byte k) 0) r) e
