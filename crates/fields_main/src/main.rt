@@ -7,7 +7,7 @@ ghost use Rattle.std.specs.Process.{exit_status};
 use std::process::ExitCode;
 
 // What the process ends with: 0 good, 1 not all could be read or written, 2 an unknown option.
-fn fields_main(rt: &HostRuntime) -> ExitCode
+pub fn fields_main(rt: &HostRuntime) -> ExitCode
     ensures { exit_status result ≤ 2 }
 {
     ExitCode::from(fields_body::perform(rt))
