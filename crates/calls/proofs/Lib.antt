@@ -1,3 +1,4 @@
 pub mod Asked
 pub mod Handed
+pub mod Lents
 pub mod Laws

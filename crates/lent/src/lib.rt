@@ -1,2 +1,2 @@
-// How a struct that is lent by a pointer is handed on by value: the proof that exported functions over structs share. No function.
+// How a struct that is lent by a pointer is handed on by value: one law for all functions of a shape. No function.
 #![tactic(auto)]
