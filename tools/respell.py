@@ -1,8 +1,9 @@
 #!/usr/bin/env python3
 """Spells the repository's own definitions and lemmas as Rattle's words are spelled: words and fields in snake case, modules in camel case.
 
-Run once, at the top, after the kit's port.py. A name's new spelling follows from the old one alone; where two names would fall together
-the one in proofs/ gets `_lem` behind it, and KEPT_APART has the rest. What Rust declares keeps its spelling."""
+Run once, at the top, after the kit's port.py, on a tree whose definitions are in the older spelling; on any other it stops, since answers
+are named after the kit's goals, and these have dashes. A name's new spelling follows from the old one alone; where two names would fall
+together the one in proofs/ gets `_lem` behind it, and KEPT_APART has the rest. What Rust declares keeps its spelling."""
 import collections
 import os
 import re
@@ -166,6 +167,8 @@ def rewrite(f, change):
 
 
 def main():
+    if not any("/specs/inner" in f for f in files(".antt")):
+        sys.exit("respell: the definitions of this tree are in today's spelling; nothing was changed")
     new = table()
     if "--table" in sys.argv:
         for n in sorted(new):
