@@ -1,25 +1,26 @@
--- The open cells are copied to the finished ones just when an accumulation is reported as closed; what isn't closed is all 0.
+-- The open cells are copied to the finished ones just when an accumulation is reported as closed.
 -- Assumes nothing.
 use mathlib.Core.Path.{◌≡◌, refl}
 use mathlib.Core.Bool.{Bool, true, false, cond}
 use Prim.Native.Nat.{ℕ}
+use Rattle.std.specs.Prelude.{Option, Some, None, is_some}
 use Rattle.buffers.specs.declared.work.Work.{Work}
 use Rattle.buffers.proofs.Closing.{Closes, closes, closes_none}
-use Rattle.accumulation.specs.Accumulation.{is_open, unreported, reported, joins, extends, renews, passes, step_accumulation, clears_for, lays_for}
+use Rattle.accumulation.specs.Accumulation.{is_open, reported, joins, extends, renews, passes, step_accumulation, clears_for, lays_for}
 use Rattle.accumulation.specs.declared.Accumulation.{Accumulation}
 use Rattle.accumulation.specs.declared.AccumulationReport.{AccumulationReport}
 use Rattle.accumulation.specs.declared.AccumulationStep.{AccumulationStep}
 
 -- copied when closed, and then cleared
-abbrev pub FramesClose : Work → AccumulationReport → Type 0
-FramesClose w r = Closes (λ x. x.closed) unreported w r
+abbrev pub FramesClose : Work → Option AccumulationReport → Type 0
+FramesClose w r = Closes is_some None w r
 
 pub frames_report : (a : Accumulation) (b c : Bool) → (is_open a ≡ true → b ≡ true)
     → FramesClose (record { copies = is_open a; clears = b; lays = c }) (reported a)
-frames_report a b c h = closes (λ x. x.closed) unreported refl b c (record { closed = true; first = a.first; held = a.held }) refl (is_open a) h
+frames_report a b c h = closes is_some None refl b c (Some (record { first = a.first; held = a.held })) refl (is_open a) h
 
-pub no_frames : (b c : Bool) → FramesClose (record { copies = false; clears = b; lays = c }) unreported
-no_frames b c = closes_none (λ x. x.closed) unreported refl b c
+pub no_frames : (b c : Bool) → FramesClose (record { copies = false; clears = b; lays = c }) None
+no_frames b c = closes_none is_some None refl b c
 
 module _ (a : Accumulation) (science : Bool) (u d : ℕ) where
   abbrev step_by : Bool → Bool → AccumulationStep

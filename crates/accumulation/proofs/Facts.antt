@@ -10,7 +10,7 @@ use lib.Pow.{pow_mono}
 use borrow.Author.Tests.{eqb-true, eqb-false, ltb-true, leb-true, eq-eqb, ne_eqb, lt-ltb}
 use Rattle.prelude.proofs.Conds.{two, second}
 use Rattle.prelude.specs.Marks.{bit_set, highest}
-use Rattle.prelude.proofs.Marks.{highest_high, highest_set, set_below}
+use Rattle.prelude.proofs.Marks.{highest_high, highest_set, set_below, none_above}
 use Rattle.clock.specs.Clock.{full_counts, begun}
 use Rattle.clock.specs.declared.Clock.{Clock}
 use Rattle.clock.proofs.Laws.{has_begun}
@@ -50,6 +50,11 @@ first_below a e = ltb-true a.first full_counts (two (ltb a.first full_counts) _ 
 pub frames_36 : (a : Accumulation) → frames_among a ≡ true → a.held < 2 ^ 36
 unfolding frames_among
 frames_36 a e = ltb-true a.held (2 ^ 36) (two _ _ e).0
+
+-- above type 35 no frame is held
+pub type_above : (a : Accumulation) → a.held < 2 ^ 36 → (a.held ≡ 0 → ⊥) → 35 < a.last_type → false ≡ frames_among a
+unfolding frames_among
+type_above a h z l = rw (lt-ltb, ne_eqb, none_above 36 a.last_type a.held h (omega arith))
 
 highest_frame : (a : Accumulation) → frames_among a ≡ true → (a.held ≡ 0 → ⊥) → highest a.held a.last_type ≡ true
 unfolding frames_among
@@ -143,3 +148,6 @@ module _ (a : Accumulation) (u d : ℕ) (e : in_place a u d ≡ true) where
   place_after z =
       let h = (two (ltb a.held (2 ^ 36)) _ (two (ltb u 64) _ e).1).1 in
       ltb-true (a.last_count + a.others) d (second (eqb a.held 0) _ (ne_eqb a.held 0 z) h)
+
+-- what the code needs of that where it calls them
+pub ruleset placed = (place_type, place_frames, place_after)

@@ -1,4 +1,3 @@
-pub mod Clauses
 pub mod Facts
 pub mod Keeping
 pub mod Closing

@@ -1,7 +1,7 @@
 -- The open accumulation (01, "Joining accumulations"). Counts are full ones: "Turn x 2^24 + count takes the count's place in g, major
 -- numbers, the listing and the state list" (02, request 1).
 -- Assumes nothing.
-use Rattle.std.specs.Prelude.{ℕ, ◌+◌, ◌-◌, ◌^◌, Bool, true, false, cond, not, ◌&&◌, eqb, ltb, leb}
+use Rattle.std.specs.Prelude.{ℕ, ◌+◌, ◌-◌, ◌^◌, Bool, true, false, cond, not, ◌&&◌, eqb, ltb, leb, Option, Some, None}
 use Rattle.prelude.specs.Marks.{marked}
 use Rattle.buffers.specs.Working.{no_work}
 use Rattle.accumulation.specs.declared.Accumulation.{Accumulation}
@@ -52,20 +52,17 @@ passed a = record {
   others = cond (is_open a) (a.others + 1) a.others;
 }
 
--- "Closing ... reports number (for an accumulation, the count of its first frame) and which frames it holds"; what doesn't close
--- is all 0
-abbrev pub unreported : AccumulationReport
-unreported = record { closed = false; first = 0; held = 0 }
-
-abbrev pub reported : Accumulation → AccumulationReport
-reported a = cond (is_open a) (record { closed = true; first = a.first; held = a.held }) unreported
+-- "Closing ... reports number (for an accumulation, the count of its first frame) and which frames it holds"; nothing is reported of
+-- what doesn't close
+abbrev pub reported : Accumulation → Option AccumulationReport
+reported a = cond (is_open a) (Some (record { first = a.first; held = a.held })) None
 
 -- an other frame leaves the cells alone
 abbrev pub passes : Accumulation → AccumulationStep
-passes a = record { gap = Neither; next = passed a; report = unreported; work = no_work }
+passes a = record { gap = Neither; next = passed a; report = None; work = no_work }
 
 abbrev pub extends : Accumulation → ℕ → ℕ → AccumulationStep
-extends a u d = record { gap = Joins; next = joined a u d; report = unreported; work = record { copies = false; clears = false; lays = true } }
+extends a u d = record { gap = Joins; next = joined a u d; report = None; work = record { copies = false; clears = false; lays = true } }
 
 -- "Otherwise the open accumulation closes and a new one opens with u." "Opening sets the whole open cell buffer to 0 before the
 -- frame is laid in"

@@ -1,9 +1,9 @@
 -- What the functions of this room answer where what they are handed is out of place: so they ask nothing of their caller. In every
 -- state that passes the list, and for every later record, it is in place (`in_place_lem` in proofs/Facts.antt).
 -- Assumes nothing.
-use Rattle.std.specs.Prelude.{ℕ, ◌+◌, ◌^◌, Bool, cond, ◌&&◌, ◌||◌, eqb, ltb}
+use Rattle.std.specs.Prelude.{ℕ, ◌+◌, ◌^◌, Bool, cond, ◌&&◌, ◌||◌, eqb, ltb, None}
 use Rattle.buffers.specs.Working.{no_work}
-use Rattle.accumulation.specs.Accumulation.{unreported, step_accumulation}
+use Rattle.accumulation.specs.Accumulation.{step_accumulation}
 use Rattle.accumulation.specs.declared.Accumulation.{Accumulation}
 use Rattle.accumulation.specs.declared.AccumulationStep.{AccumulationStep}
 use Rattle.accumulation.specs.declared.GapDecision.TheVariants.{Neither}
@@ -14,7 +14,7 @@ in_place a u d = ltb u 64 && (ltb a.held (2 ^ 36) && (eqb a.held 0 || ltb (a.las
 
 -- nothing is done
 abbrev pub leaves : Accumulation → AccumulationStep
-leaves a = record { gap = Neither; next = a; report = unreported; work = no_work }
+leaves a = record { gap = Neither; next = a; report = None; work = no_work }
 
 unfoldable pub stepped_at : Accumulation → Bool → ℕ → ℕ → AccumulationStep
 stepped_at a science u d = cond (in_place a u d) (step_accumulation a science u d) (leaves a)

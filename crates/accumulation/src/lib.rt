@@ -8,11 +8,12 @@ mod steps;
 
 use buffers::Work;
 pub use soundness::is_sound;
-pub use steps::{no_accumulation, report, step, unreported};
+pub use steps::{no_accumulation, report, step};
 
+// No option where none is open: any state may be handed in (demand 1), and one with a field left over is refused with 1 (`none_open`).
 // The count of its first frame, the frames held (bit u for type u), the type and the count of its last frame, the other frames
 // accepted since. It is open when it holds a frame.
-#[derive(Clone, Copy)]
+#[derive(Clone, Copy, Debug, PartialEq, Eq)]
 pub struct Accumulation {
     pub first: u64,
     pub held: u64,
@@ -22,17 +23,16 @@ pub struct Accumulation {
 }
 
 // What became of a frame: one with science opens an accumulation or joins the open one, another does neither.
-#[derive(Clone, Copy)]
+#[derive(Clone, Copy, Debug, PartialEq, Eq)]
 pub enum GapDecision {
     Opens,
     Joins,
     Neither,
 }
 
-// Whether an accumulation was closed, the count of its first frame and the frames it holds; all 0 where none was.
-#[derive(Clone, Copy)]
+// Of an accumulation that was closed, the count of its first frame and the frames it holds.
+#[derive(Clone, Copy, Debug, PartialEq, Eq)]
 pub struct AccumulationReport {
-    pub closed: bool,
     pub first: u64,
     pub held: u64,
 }
@@ -42,6 +42,6 @@ pub struct AccumulationReport {
 pub struct AccumulationStep {
     pub gap: GapDecision,
     pub next: Accumulation,
-    pub report: AccumulationReport,
+    pub report: Option<AccumulationReport>,
     pub work: Work,
 }

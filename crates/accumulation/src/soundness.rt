@@ -7,47 +7,36 @@ use crate::Accumulation;
 use clock::{Clock, FULL_COUNTS};
 use record::FRAME_MARKS;
 
+#[tactic(auto, unfolding(crate::specs::Soundness::counts_below))]
 fn counts_below(a: Accumulation) -> bool
     ensures { result ≡ counts_below a }
 {
     (a.first < FULL_COUNTS) & (a.last_count < FULL_COUNTS)
 }
 
+#[tactic(auto, using(crate::proofs::Facts::type_above), unfolding(crate::specs::Soundness::frames_among, prelude::specs::Marks::highest))]
 fn frames_among(a: Accumulation) -> bool
     ensures { result ≡ frames_among a }
 {
-    if FRAME_MARKS <= a.held {
-        return false;
-    }
-    if a.held == 0 {
-        return true;
-    }
-    if 35 < a.last_type {
-        return false;
-    }
-    a.held >> a.last_type == 1
+    a.held < FRAME_MARKS && (a.held == 0 || (a.last_type <= 35 && a.held >> a.last_type == 1))
 }
 
+#[tactic(auto, unfolding(crate::specs::Soundness::frames_fit))]
 fn frames_fit(a: Accumulation) -> bool
     requires { a.first < full_counts }
     ensures { result ≡ frames_fit a }
 {
-    let after = a.first + u64::count_ones(a.held) as u64;
-    if after == 0 {
-        return true;
-    }
-    after - 1 <= a.last_count
+    (a.first + a.held.count_ones() as u64).saturating_sub(1) <= a.last_count
 }
 
+#[tactic(auto, unfolding(crate::specs::Soundness::others_fit))]
 fn others_fit(clock: Clock, a: Accumulation) -> bool
     ensures { result ≡ others_fit clock a }
 {
-    if clock.last < a.last_count {
-        return false;
-    }
-    a.others <= clock.last - a.last_count
+    a.last_count <= clock.last && a.others <= clock.last - a.last_count
 }
 
+#[tactic(auto, unfolding(crate::specs::Soundness::none_open))]
 fn none_open(a: Accumulation) -> bool
     ensures { result ≡ none_open a }
 {
@@ -56,6 +45,7 @@ fn none_open(a: Accumulation) -> bool
 }
 
 // Does the accumulation pass its part of the list, with this clock?
+#[tactic(auto, using(crate::proofs::Facts::first_below), unfolding(crate::specs::Soundness::accumulation_sound))]
 pub fn is_sound(clock: Clock, a: Accumulation) -> bool
     ensures { result ≡ accumulation_sound clock a }
 {

@@ -1,6 +1,6 @@
 // What a record makes of the open accumulation, and what it reports when it closes (01, "Joining accumulations").
 ghost use Rattle.std.specs.Prelude.{◌≡◌, ◌^◌, ◌<◌};
-ghost use Rattle.accumulation.specs.Accumulation.{no_accumulation, unreported, reported, passes, extends, renews};
+ghost use Rattle.accumulation.specs.Accumulation.{no_accumulation, reported, passes, extends, renews};
 ghost use Rattle.accumulation.specs.Place.{leaves, stepped_at};
 ghost use Rattle.accumulation.specs.Inner.Joining.{After};
 
@@ -21,29 +21,17 @@ pub fn no_accumulation() -> Accumulation
     }
 }
 
-// The report where no accumulation closes.
-pub fn unreported() -> AccumulationReport
-    ensures { result ≡ unreported }
-{
-    AccumulationReport {
-        closed: false,
-        first: 0,
-        held: 0,
-    }
-}
-
 // What closing an accumulation reports: nothing where none is open.
-pub fn report(a: Accumulation) -> AccumulationReport
+pub fn report(a: Accumulation) -> Option<AccumulationReport>
     ensures { result ≡ reported a }
 {
     if a.held == 0 {
-        return unreported();
+        return None;
     }
-    AccumulationReport {
-        closed: true,
+    Some(AccumulationReport {
         first: a.first,
         held: a.held,
-    }
+    })
 }
 
 // The accumulation stays as it is.
@@ -53,7 +41,7 @@ fn leave(a: Accumulation) -> AccumulationStep
     AccumulationStep {
         gap: GapDecision::Neither,
         next: a,
-        report: unreported(),
+        report: None,
         work: no_work(),
     }
 }
@@ -66,12 +54,14 @@ fn pass(a: Accumulation, d: u64) -> AccumulationStep
     if a.held == 0 {
         return leave(a);
     }
-    let mut b = a;
-    b.others = a.others + 1;
-    leave(b)
+    leave(Accumulation {
+        others: a.others + 1,
+        ..a
+    })
 }
 
 // A frame of type u at count d after those it holds.
+#[tactic(auto, using(prelude::proofs::Marks::weight), unfolding(prelude::specs::Marks::marked))]
 fn extend(a: Accumulation, u: u8, d: u64) -> AccumulationStep
     requires { (u < 64) × (a.held < 2 ^ 36) }
     ensures { result ≡ extends a u d }
@@ -85,7 +75,7 @@ fn extend(a: Accumulation, u: u8, d: u64) -> AccumulationStep
             last_count: d,
             others: 0,
         },
-        report: unreported(),
+        report: None,
         work: Work {
             copies: false,
             clears: false,
@@ -117,7 +107,9 @@ fn renew(a: Accumulation, u: u8, d: u64) -> AccumulationStep
     }
 }
 
-// A frame at count d, with science of type u or without.
+// A frame at count d, with science of type u or without. The type comes with either: what is out of place is asked of both (`in_place`). Both
+// come beside the accumulation: a struct of the two would be made for this one call.
+#[tactic(auto, using(crate::proofs::Facts::placed), unfolding(crate::specs::Place::stepped_at, crate::specs::Accumulation::step_accumulation))]
 pub fn step(a: Accumulation, science: bool, u: u8, d: u64) -> AccumulationStep
     ensures { result ≡ stepped_at a science u d }
 {

@@ -2,8 +2,8 @@
 -- Assumes nothing.
 use mathlib.Core.Path.{◌≡◌}
 use Prim.Native.Nat.{ℕ}
+use Rattle.std.specs.Prelude.{Option}
 use Rattle.angles.specs.Angles.{AngleIs}
-use Rattle.angles.specs.declared.Angle.{Angle}
 
-pub one_angle : (a p : ℕ) (r s : Angle) → AngleIs a p r → AngleIs a p s → r ≡ s
+pub one_angle : (a p : ℕ) (r s : Option ℕ) → AngleIs a p r → AngleIs a p s → r ≡ s
 one_angle a p r s x y = cc

@@ -1,9 +1,6 @@
 -- The 88 angles of 16 anodes by 8 spin phases (01, "Angles"; 000, section 2.3.2).
 -- Assumes nothing.
-use Rattle.std.specs.Prelude.{ℕ, ◌+◌, ◌*◌, ◌-◌, ◌/◌, Bool, cond, ◌&&◌, List, [], ◌∷◌, ◌≡◌, ltb, leb}
-use Rattle.std.proofs.Math.Option.{Option, none, some}
-use Rattle.angles.specs.declared.Angle.{Angle}
-use Rattle.angles.specs.declared.Angle.TheVariants.{At, NoSuchBin}
+use Rattle.std.specs.Prelude.{ℕ, ◌+◌, ◌*◌, ◌-◌, ◌/◌, Bool, cond, ◌&&◌, List, [], ◌∷◌, ◌≡◌, ltb, leb, Option, Some, None}
 
 -- a line of 01's table: anodes, angles, phases per angle
 pub record Line : Type 0 where
@@ -49,12 +46,6 @@ angle_at a p = angle_in (anode_line a) a p
 abbrev pub has_bin : ℕ → ℕ → Bool
 has_bin a p = ltb a 16 && ltb p 8
 
--- the angle that an answer gives; "no such bin" gives none
-unfoldable pub angle_given : Angle → Option ℕ
-angle_given (At b) = some b
-angle_given NoSuchBin = none
-
--- one answer; and the angle that it gives, which follows
-pub record AngleIs (a p : ℕ) (r : Angle) : Type 0 where
-  pub is : r ≡ cond (has_bin a p) (At (angle_at a p)) NoSuchBin
-  pub given : angle_given r ≡ cond (has_bin a p) (some (angle_at a p)) none
+-- one answer: the angle, and none where there is no such bin
+abbrev pub AngleIs : ℕ → ℕ → Option ℕ → Type 0
+AngleIs a p r = r ≡ cond (has_bin a p) (Some (angle_at a p)) None

@@ -3,13 +3,6 @@
 
 ghost use Rattle.angles.specs.Angles.{AngleIs};
 
-// An angle 0 to 87, or "no such bin".
-#[derive(Clone, Copy)]
-pub enum Angle {
-    At(u8),
-    NoSuchBin,
-}
-
 // An anode's first angle, and how many phases an angle of it covers.
 #[derive(Clone, Copy)]
 struct Anode(u8, u8);
@@ -33,16 +26,14 @@ const ANODES: [Anode; 16] = [
     Anode(86, 4),
 ];
 
-// The angle of an anode 0 to 15 at a spin phase 0 to 7.
-pub fn angle_of(anode: usize, phase: usize) -> Angle
+// The angle, 0 to 87, of an anode 0 to 15 at a spin phase 0 to 7; none where there is no such bin.
+#[tactic(auto, using(crate::proofs::Sky::at_row))]
+pub fn angle_of(anode: usize, phase: usize) -> Option<u8>
     ensures { AngleIs anode phase result }
 {
-    if 15 < anode {
-        return Angle::NoSuchBin;
-    }
+    let Anode(first, phases) = *ANODES.get(anode)?;
     if 7 < phase {
-        return Angle::NoSuchBin;
+        return None;
     }
-    let row = ANODES[anode];
-    Angle::At(row.0 + (phase as u8) / row.1)
+    Some(first + (phase as u8) / phases)
 }

@@ -98,7 +98,7 @@ forth o room at bytes = go (leb (at + 3) (length room)) refl
         ∙ laid_same room at 3 h
     go false t = (own o room at x y).outside (leb-false (at + 3) (length room) t)
 
-too_wide : (o : Order) (room : List ℕ) (at x y : ℕ) → (4096 ≤ x) ⊎ (4096 ≤ y) → pair_put o room at x y ≡ room
+pub too_wide : (o : Order) (room : List ℕ) (at x y : ℕ) → (4096 ≤ x) ⊎ (4096 ≤ y) → pair_put o room at x y ≡ room
 too_wide o room at x y (inl h) = sym (first_wide o room at x y h)
 too_wide o room at x y (inr h) = sym (second_wide o room at x y h)
 

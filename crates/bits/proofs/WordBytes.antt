@@ -1,15 +1,16 @@
 -- A word of n bytes, most significant first, over its width.
 -- Assumes nothing.
 use mathlib.Core.Bool.{Bool, true, false, cond}
-use mathlib.Core.Path.{◌≡◌, refl, sym}
+use mathlib.Core.Path.{◌≡◌, refl, sym, ◌∙◌}
 use mathlib.Core.List.{List}
-use Prim.Native.Nat.{ℕ, ◌+◌, ◌*◌, ◌^◌, ◌<◌, ◌≤◌}
+use Prim.Native.Nat.{ℕ, ◌+◌, ◌-◌, ◌*◌, ◌^◌, ◌<◌, ◌≤◌}
 use native.Mathlib.Nat.{lt_of_lt_of_le}
 use native.Mathlib.Omega.{arith}
 use lib.Dec.{leb}
-use lib.ListN.{length, get_or}
+use lib.ListN.{length, get_or, take, drop, length-drop}
+use lib.Seq.{get_or-take, get_or-drop, length-take-le}
 use lib.Pow.{pow_mono, pow_pos}
-use borrow.Author.Tests.{le-leb, lt-leb}
+use borrow.Author.Tests.{le-leb}
 use Rattle.bits.specs.Numbers.{most, join, number, word_in}
 use Rattle.bits.proofs.Numbers.{below, one_more}
 
@@ -40,5 +41,10 @@ small_word b at n = go (leb (8 * at + 8 * n) (8 * length b))
 pub inside : (b : List ℕ) (at n : ℕ) → at + n ≤ length b → first b at n ≡ word_in b at n
 inside b at n h = rw (le-leb (8 * at + 8 * n) (8 * length b) (omega arith))
 
-pub outside : (b : List ℕ) (at n : ℕ) → length b < at + n → 0 ≡ word_in b at n
-outside b at n h = rw (lt-leb (8 * at + 8 * n) (8 * length b) (omega arith))
+-- byte i of the part of b that is the word
+module _ (b : List ℕ) (at n i : ℕ) (h : at + n ≤ length b) (k : i < length (take (at + n - at) (drop at b))) where
+  pub place : i < n
+  place = let l = length-take-le (at + n - at) (drop at b) (omega (arith, length-drop at b)) in omega (arith, l)
+
+  pub byte : get_or (take (at + n - at) (drop at b)) i 0 ≡ get_or b (at + i) 0
+  byte = get_or-take (at + n - at) (drop at b) i 0 (omega (arith, place)) ∙ get_or-drop at b i 0

@@ -1,6 +1,8 @@
 -- Numbers in bytes, bit by bit, in either order of the bits. A list's element past its end counts as 0.
 -- Assumes nothing.
 use Rattle.std.specs.Prelude.{cond, ℕ, zero, suc, ◌+◌, ◌-◌, ◌*◌, ◌/◌, ◌%◌, ◌^◌, List, leb, length, get_or}
+use Rattle.bits.specs.declared.order.Order.{Order as Named}
+use Rattle.bits.specs.declared.order.Order.TheVariants.{Least, Most}
 
 -- Which bit comes first, of a byte and of a number alike.
 -- least: "Bit numbers start at zero for the LSB of the first byte" (000, section 2.2).
@@ -8,6 +10,11 @@ use Rattle.std.specs.Prelude.{cond, ℕ, zero, suc, ◌+◌, ◌-◌, ◌*◌, �
 pub data Order : Type 0 where
   least : Order
   most : Order
+
+-- the order that an `Order` of the code names
+abbrev pub order_of : Named → Order
+order_of Least = least
+order_of Most = most
 
 -- bit j of the byte x, from 0
 unfoldable pub bit_of : Order → ℕ → ℕ → ℕ

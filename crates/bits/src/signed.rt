@@ -4,22 +4,17 @@ ghost use Rattle.bits.specs.Signed.{signed_of, unsigned_of, signed_in, signed_pu
 
 use crate::{put16, word16};
 
+// std's casts by name: the contracts say what they are (`signed_of`, `unsigned_of`).
 fn from_word(w: u16) -> i16
     ensures { result ≡ signed_of w }
 {
-    if w < 32768 {
-        return w as i16;
-    }
-    (w as i32 - 65536) as i16
+    w.cast_signed()
 }
 
 fn to_word(z: i16) -> u16
     ensures { result ≡ unsigned_of z }
 {
-    if z < 0 {
-        return (z as i32 + 65536) as u16;
-    }
-    z as u16
+    z.cast_unsigned()
 }
 
 // 0 where the number doesn't lie wholly in b.
@@ -30,6 +25,7 @@ pub fn signed16(b: &[u8], at: usize) -> i16
 }
 
 // The room stays as found where the number doesn't lie wholly in it.
+#[tactic(auto, using(crate::proofs::SignedPut::narrow))]
 pub fn put_signed16(room: &mut [u8], at: usize, z: i16)
     ensures { room.new ≡ signed_put room.old at z }
 {

@@ -2,28 +2,22 @@
 ghost use Rattle.std.specs.Prelude.{◌≡◌, ◌≤◌};
 ghost use Rattle.bits.specs.Numbers.{word_in};
 
-use crate::wide;
-
 // The word of n bytes from `at`; 0 where it doesn't lie wholly in b.
 fn word(b: &[u8], at: usize, n: usize) -> u64
     requires { n ≤ 8 }
     ensures { result ≡ word_in b.now at n }
 {
-    if b.len() < n {
+    if !buffers::has_room(b.len(), at, n) {
         return 0;
     }
-    if b.len() - n < at {
-        return 0;
-    }
-    let mut x: u64 = 0;
-    let mut i = 0;
-    while i < n {
-        x = x * 256 + wide(b[at + i]) as u64;
-        i += 1;
+    let mut x = 0;
+    for y in &b[at..at + n] {
+        x = x * 256 + u64::from(*y);
     }
     x
 }
 
+// A function each, not one over a trait: three impls, each a size, a conversion and its law, would stand for these lines, and 24 bits have no type.
 pub fn word16(b: &[u8], at: usize) -> u16
     ensures { result ≡ word_in b.now at 2 }
 {

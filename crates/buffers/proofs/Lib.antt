@@ -1,4 +1,3 @@
-pub mod Copies
 pub mod Patches
 pub mod Blocks
 pub mod Fills

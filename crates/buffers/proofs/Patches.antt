@@ -2,14 +2,14 @@
 -- Assumes nothing.
 use mathlib.Core.Path.{◌≡◌, sym, ap, ◌∙◌}
 use mathlib.Core.Bool.{Bool, true, false, not}
-use mathlib.Core.List.{List, [], ◌++◌, append_assoc}
+use mathlib.Core.List.{List, [], ◌++◌, append_assoc, append-nil}
 use Prim.Native.Nat.{ℕ, ◌+◌, ◌-◌, ◌<◌, ◌≤◌}
 use native.Mathlib.Nat.{add_assoc, add-zero}
 use native.Mathlib.Omega.{arith}
 use lib.Dec.{leb}
-use lib.ListN.{length, get_or, take, drop, length-append, length-drop, take-append-drop, get_or-append}
+use lib.ListN.{length, get_or, take, drop, length-append, length-drop, take-append-drop, drop_of_length-le, get_or-append}
 use lib.Seq.{length-take-le, take_at, drop_at, take-add, take-take, drop-append-le, drop-drop, get_or-append-add, get_or-take, get_or-drop}
-use borrow.Author.Tests.{le-leb, lt-leb, leb-true, leb-false, eq-eqb, not-true, not-false}
+use borrow.Author.Tests.{le-leb, lt-leb, eq-eqb, leb-true, leb-false, not-true, not-false}
 use Rattle.prelude.proofs.Conds.{cases}
 use Rattle.buffers.specs.Copying.{copied}
 use Rattle.buffers.specs.Laying.{patch, has_room, laid}
@@ -95,14 +95,12 @@ module _ {ℓ} {A : Type ℓ} where
       ∙ ap (λ (y : List A). take at d ++ y) (sym (append_assoc s t (drop (m + length t) d)))
       ∙ ap (λ (n : ℕ). take at d ++ ((s ++ t) ++ drop n d)) k
 
-  -- what was copied into a part is laid over the whole
-  pub part_copied : (s d : List A) (at n : ℕ) (ys : List A) → n ≡ length s → at + length s ≤ length d → ys ≡ copied s (take n (drop at d))
-      → take at d ++ (ys ++ drop n (drop at d)) ≡ laid s d at
+  -- one list laid over the whole of another is copied to it
+  pub laid_whole : (s d : List A) → length s ≡ length d → laid s d 0 ≡ copied s d
   unfolding patch
-  part_copied s d at n ys e h q =
-      let l = length-take-le n (drop at d) (simp length-drop (omega arith)) in
-      let c : ys ≡ s = q ∙ rw (eq-eqb (length s) (length (take n (drop at d))) (sym e ∙ sym l)) in
-      rw (c, e, drop-drop, le-leb (at + length s) (length d) h)
+  laid_whole s d e =
+      let n = drop_of_length-le d {i = 0 + length s} (omega arith) in
+      laid_in s d 0 (omega arith) ∙ ap (λ (x : List A). s ++ x) n ∙ append-nil s ∙ rw (eq-eqb (length s) (length d) e)
 
   -- what was laid into a part is laid over the whole, further on
   pub part_laid : (s d : List A) (a n at : ℕ) (ys : List A) → a + n ≤ length d → at + length s ≤ n → ys ≡ laid s (take n (drop a d)) at

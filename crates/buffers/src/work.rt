@@ -2,8 +2,9 @@
 ghost use Rattle.std.specs.Prelude.{◌≡◌};
 ghost use Rattle.buffers.specs.Working.{no_work, closing_work};
 
-// The open one copied to the finished; the open one cleared; the record's own bytes laid into it: in this order.
-#[derive(Clone, Copy)]
+// The open one copied to the finished; the open one cleared; the record's own bytes laid into it: in this order. Three flags, and no value
+// beside one: `Works` and `worked` (reader/Buffers) ask each by itself.
+#[derive(Clone, Copy, Debug, PartialEq, Eq)]
 pub struct Work {
     pub copies: bool,
     pub clears: bool,
@@ -20,7 +21,7 @@ pub fn no_work() -> Work
     }
 }
 
-// The open buffer is copied and cleared where something is held.
+// The open buffer is copied and cleared where something is held: a flag, as in the definition of that name.
 pub fn closing_work(held: bool) -> Work
     ensures { result ≡ closing_work held }
 {

@@ -1,22 +1,21 @@
-// The questions about a finished snapshot, and about a burst's MAG, for C; include/lpmag.h documents each function.
+// The questions about a finished snapshot, and about a burst's MAG, for C; include/lpmag.h documents each function. Parameters are C's.
 #![tactic(auto)]
 
-ghost use Rattle.std.specs.Prelude.{◌≡◌};
+ghost use Rattle.std.specs.Prelude.{◌≡◌, unwrap_or};
 ghost use Rattle.electrons.specs.Questions.{total_cell, rate_cell};
 ghost use Rattle.snapshots.specs.Questions.{three_asked, pitch_asked, header_asked};
-ghost use Rattle.c_answers.specs.Answers.{AskedGiven};
+ghost use Rattle.c_answers.specs.Answers.{AskedGiven, nowhere};
 ghost use Rattle.c_bursts.specs.Bursts.{ByteGiven, MagAngleGiven};
 ghost use Rattle.c_bursts.specs.Seconds.{burst_range, BurstSamplesGiven};
-ghost use Rattle.c_bursts.specs.Inner.Answers.{unpacked_number};
 
-use c_answers::{NO_SUCH_PLACE, hand_byte, hand_count};
-use mag::Unpacked;
+use c_answers::{NO_SUCH_PLACE, hand, hand_count};
+use snapshots::Held;
 
 #[unsafe(no_mangle)]
 pub extern "C" fn lpmag_snapshot_byte(snapshot: &[u8], held: u32, place: usize, byte: &mut u8) -> u8
     ensures { ByteGiven snapshot.now held place byte.old result byte.new }
 {
-    hand_byte(snapshots::byte(snapshot, held, place), byte)
+    hand(Held { snapshot, held }.byte(place), byte)
 }
 
 #[unsafe(no_mangle)]
@@ -31,7 +30,7 @@ pub extern "C" fn lpmag_snapshot_three_d(
     ensures { AskedGiven (three_asked snapshot.now held step angle)
         low.old high.old result low.new high.new }
 {
-    hand_count(snapshots::three_d(snapshot, held, step, angle), low, high)
+    hand_count(Held { snapshot, held }.three_d(step, angle), low, high)
 }
 
 #[unsafe(no_mangle)]
@@ -46,7 +45,7 @@ pub extern "C" fn lpmag_snapshot_pitch(
     ensures { AskedGiven (pitch_asked snapshot.now held energy angle)
         low.old high.old result low.new high.new }
 {
-    hand_count(snapshots::pitch(snapshot, held, energy, angle), low, high)
+    hand_count(Held { snapshot, held }.pitch(energy, angle), low, high)
 }
 
 #[unsafe(no_mangle)]
@@ -59,7 +58,7 @@ pub extern "C" fn lpmag_snapshot_total(
     ensures { AskedGiven (header_asked total_cell snapshot.now held)
         low.old high.old result low.new high.new }
 {
-    hand_count(snapshots::total(snapshot, held), low, high)
+    hand_count(Held { snapshot, held }.total(), low, high)
 }
 
 #[unsafe(no_mangle)]
@@ -72,7 +71,7 @@ pub extern "C" fn lpmag_snapshot_rate(
     ensures { AskedGiven (header_asked rate_cell snapshot.now held)
         low.old high.old result low.new high.new }
 {
-    hand_count(snapshots::rate(snapshot, held), low, high)
+    hand_count(Held { snapshot, held }.rate(), low, high)
 }
 
 #[unsafe(no_mangle)]
@@ -84,17 +83,14 @@ pub extern "C" fn lpmag_snapshot_angle(
 ) -> u8
     ensures { MagAngleGiven snapshot.now held number angle.old result angle.new }
 {
-    hand_byte(snapshots::mag_angle(snapshot, held, number), angle)
+    hand(Held { snapshot, held }.mag_angle(number), angle)
 }
 
 // The range of an answer, or the number of its words.
-fn hand_range(answer: Unpacked) -> u8
-    ensures { result ≡ unpacked_number answer }
+fn hand_range(answer: Option<u8>) -> u8
+    ensures { result ≡ unwrap_or answer nowhere }
 {
-    match answer {
-        Unpacked::Range(range) => range,
-        Unpacked::NoSuchPlace => NO_SUCH_PLACE,
-    }
+    answer.unwrap_or(NO_SUCH_PLACE)
 }
 
 #[unsafe(no_mangle)]

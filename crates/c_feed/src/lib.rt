@@ -1,10 +1,12 @@
-// Many records a call, for C: the state and the report are structs, lent. include/lpmag.h documents the function. It stands in a room
+// Many records a call, for C: the state and the report are structs, lent. include/lpmag.h documents the function, which is lent
+// seven buffers as parameters, as C has them. It stands in a room
 // of its own, and so in an archive of its own, where it alone calls the reader's step: the compiler then lays all of a step into it.
 #![tactic(auto)]
 
 ghost use Rattle.reader.specs.Buffers.{buffers};
 ghost use Rattle.calls.specs.Feeding.{back_fed, FeedGiven};
 
+use reader::Lent;
 use shapes::{CFed, CState};
 
 #[unsafe(no_mangle)]
@@ -27,9 +29,7 @@ pub extern "C" fn lpmag_feed(
         (buffers open_cells.new finished_cells.new open_samples.new finished_samples.new
         open_snapshot.new first_snapshot.new second_snapshot.new) }
 {
-    let y = calls::feed(
-        *state,
-        *fed,
+    let mut lent = Lent {
         open_cells,
         finished_cells,
         open_samples,
@@ -37,8 +37,8 @@ pub extern "C" fn lpmag_feed(
         open_snapshot,
         first_snapshot,
         second_snapshot,
-        bytes,
-    );
+    };
+    let y = calls::feed(*state, *fed, &mut lent, bytes);
     if y.answer == 0 {
         *state = y.state;
         *fed = y.fed;

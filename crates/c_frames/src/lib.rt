@@ -1,4 +1,4 @@
-// Questions about a finished major frame, for C; include/lpmag.h documents each function.
+// Questions about a finished major frame, for C; include/lpmag.h documents each function. Parameters are C's.
 #![tactic(auto)]
 
 ghost use Rattle.calls.specs.Frames.{WordGiven, SampleGiven, NominalGiven};

@@ -1,8 +1,10 @@
-// Numbers in bytes, for C; include/lpmag.h documents each function.
+// Numbers in bytes, for C; include/lpmag.h documents each function. Parameters are C's.
 #![tactic(auto)]
 
 ghost use Rattle.std.specs.Prelude.{◌≡◌};
 ghost use Rattle.bits.specs.Numbers.{least, most, word_in, twelve_in};
+
+use bits::Order;
 
 #[unsafe(no_mangle)]
 pub extern "C" fn lpmag_word16(bytes: &[u8], at: usize) -> u16
@@ -29,12 +31,12 @@ pub extern "C" fn lpmag_word32(bytes: &[u8], at: usize) -> u32
 pub extern "C" fn lpmag_twelve_least(bytes: &[u8], k: usize) -> u16
     ensures { result ≡ twelve_in least bytes.now k }
 {
-    bits::twelve_least(bytes, k)
+    bits::twelve(Order::Least, bytes, k)
 }
 
 #[unsafe(no_mangle)]
 pub extern "C" fn lpmag_twelve_most(bytes: &[u8], k: usize) -> u16
     ensures { result ≡ twelve_in most bytes.now k }
 {
-    bits::twelve_most(bytes, k)
+    bits::twelve(Order::Most, bytes, k)
 }

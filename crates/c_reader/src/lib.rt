@@ -1,9 +1,11 @@
-// The reader, for C: the state and the report are structs, lent. include/lpmag.h documents each function.
+// The reader, for C: the state and the report are structs, lent. include/lpmag.h documents each function. The seven
+// buffers are parameters each, as C lends them.
 #![tactic(auto)]
 
 ghost use Rattle.reader.specs.Buffers.{buffers};
 ghost use Rattle.calls.specs.Reading.{handed_back, back_closed, StepGiven, FinishGiven};
 
+use reader::Lent;
 use shapes::{CClosed, CReport, CState};
 
 #[unsafe(no_mangle)]
@@ -26,9 +28,7 @@ pub extern "C" fn lpmag_step(
         (buffers open_cells.new finished_cells.new open_samples.new finished_samples.new
         open_snapshot.new first_snapshot.new second_snapshot.new) }
 {
-    let y = calls::step(
-        *state,
-        *report,
+    let mut lent = Lent {
         open_cells,
         finished_cells,
         open_samples,
@@ -36,8 +36,8 @@ pub extern "C" fn lpmag_step(
         open_snapshot,
         first_snapshot,
         second_snapshot,
-        r,
-    );
+    };
+    let y = calls::step(*state, *report, &mut lent, r);
     if y.answer == 0 {
         *state = y.state;
         *report = y.report;
@@ -64,9 +64,7 @@ pub extern "C" fn lpmag_finish(
         (buffers open_cells.new finished_cells.new open_samples.new finished_samples.new
         open_snapshot.new first_snapshot.new second_snapshot.new) }
 {
-    let y = calls::finish(
-        *state,
-        *closed,
+    let mut lent = Lent {
         open_cells,
         finished_cells,
         open_samples,
@@ -74,7 +72,8 @@ pub extern "C" fn lpmag_finish(
         open_snapshot,
         first_snapshot,
         second_snapshot,
-    );
+    };
+    let y = calls::finish(*state, *closed, &mut lent);
     if y.answer == 0 {
         *state = y.state;
         *closed = y.closed;

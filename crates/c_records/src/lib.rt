@@ -1,4 +1,4 @@
-// The record, for C; include/lpmag.h documents each function.
+// The record, for C; include/lpmag.h documents each function. Parameters are C's.
 #![tactic(auto)]
 
 ghost use Rattle.std.specs.Prelude.{◌≡◌};
@@ -9,7 +9,7 @@ ghost use Rattle.calls.specs.Contents.{FieldsGiven, back_fields};
 ghost use Rattle.c_answers.specs.Answers.{Given};
 ghost use Rattle.c_records.specs.Records.{library_version, WordsGiven};
 
-use record::{Record, Verdict};
+use record::Record;
 use shapes::CFields;
 
 #[unsafe(no_mangle)]
@@ -19,14 +19,14 @@ pub extern "C" fn lpmag_version() -> u32
     200
 }
 
+#[tactic(auto, unfolding(record::specs::Rules::refused_number))]
 #[unsafe(no_mangle)]
 pub extern "C" fn lpmag_check(r: &[u8]) -> u8
     ensures { result ≡ broken r.now }
 {
-    let verdict = record::check(r);
-    match verdict {
-        Verdict::Passes => 0,
-        Verdict::Refused(n) => n,
+    match record::check(r) {
+        Ok(()) => 0,
+        Err(refusal) => refusal.number(),
     }
 }
 
@@ -60,7 +60,7 @@ pub extern "C" fn lpmag_packet(r: &[u8], room: &mut [u8]) -> u8
 pub extern "C" fn lpmag_kind(packet: &[u8]) -> u8
     ensures { result ≡ kind_number (kind_of packet.now) }
 {
-    record::kind_number(record::kind_of(packet))
+    record::kind_of(packet).number()
 }
 
 #[unsafe(no_mangle)]

@@ -1,6 +1,7 @@
 -- What feed answers over C's structs.
 -- Assumes nothing.
 use Rattle.std.specs.Prelude.{ℕ, Bool, cond, ◌&&◌, List, ◌≡◌}
+use Rattle.record.specs.Refusals.{number_or_0}
 use Rattle.state.specs.Soundness.{sound}
 use Rattle.reader.specs.Buffers.{Buffers, sized}
 use Rattle.feed.specs.Feeding.{Desk, nothing_fed, desk, feed_all}
@@ -28,7 +29,7 @@ back_fed n s f = record { answer = n; state = s; fed = f }
 
 -- fed from place 0 on: where the next record begins is how many bytes were taken
 abbrev pub handed_fed : Fed → CFeeding
-handed_fed f = back_fed 0 (state_out f.state) (fed_out f.at f.rule f.closed)
+handed_fed f = back_fed 0 (state_out f.state) (fed_out f.at (number_or_0 f.refusal) f.closed)
 
 -- 1, and all as found, where rule 1 fails, whatever there is to take; else what is fed from place 0 on
 pub record FeedGiven (s : CState) (f : CFed) (b : Buffers) (bytes : List ℕ) (y : CFeeding) (b' : Buffers) : Type 0 where

@@ -1,2 +1,2 @@
 -- What only private functions promise or ask: steps of the code. No public promise rests on them.
-pub mod Handing
+pub mod Readying

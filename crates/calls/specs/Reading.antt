@@ -1,13 +1,12 @@
 -- What step and finish answer over C's structs.
 -- Assumes nothing.
-use Rattle.std.specs.Prelude.{ℕ, cond, List, ◌≡◌}
+use Rattle.std.specs.Prelude.{ℕ, cond, List, ◌≡◌, Result, Ok, Err, ⊤}
+use Rattle.record.specs.Refusals.{refusal_number}
+use Rattle.record.specs.declared.refusal.Refusal.{Refusal}
 use Rattle.state.specs.Deciding.{number_of, decided_of}
 use Rattle.state.specs.Ending.{end_number, ended_of}
-use Rattle.state.specs.declared.deciding.Answer.{Answer}
-use Rattle.state.specs.declared.deciding.Answer.TheVariants.{Refused, Accepted}
 use Rattle.state.specs.declared.deciding.Stepped.{Stepped}
-use Rattle.state.specs.declared.ending.Ending.{Ending}
-use Rattle.state.specs.declared.ending.Ending.TheVariants as ending
+use Rattle.state.specs.declared.deciding.Taken.{Taken}
 use Rattle.state.specs.declared.ending.Finished.{Finished}
 use Rattle.reader.specs.Buffers.{Buffers, sized}
 use Rattle.reader.specs.Steps.{input, stepped, ended}
@@ -27,16 +26,16 @@ abbrev pub back_closed : ℕ → CState → CClosed → CFinished
 back_closed n s c = record { answer = n; state = s; closed = c }
 
 -- of an accepted record the state after it and its report; a refusal leaves both as found
-abbrev pub handed_by : Answer → Stepped → CState → CReport → CStepped
-handed_by (Refused n) x s p = handed_back n s p
-handed_by (Accepted t) x s p = handed_back 0 (state_out x.state) (report_out t x.closed)
+abbrev pub handed_by : Result Taken Refusal → Stepped → CState → CReport → CStepped
+handed_by (Err e) x s p = handed_back (refusal_number e) s p
+handed_by (Ok t) x s p = handed_back 0 (state_out x.state) (report_out t x.closed)
 
 unfoldable pub handed : Stepped → CState → CReport → CStepped
 handed x = handed_by x.answer x
 
-abbrev pub handed_end : Ending → Finished → CState → CClosed → CFinished
-handed_end (ending.Refused n) x s c = back_closed n s c
-handed_end ending.Done x s c = back_closed 0 (state_out x.state) (closed_out x.closed)
+abbrev pub handed_end : Result ⊤ Refusal → Finished → CState → CClosed → CFinished
+handed_end (Err e) x s c = back_closed (refusal_number e) s c
+handed_end (Ok _) x s c = back_closed 0 (state_out x.state) (closed_out x.closed)
 
 unfoldable pub handed_closed : Finished → CState → CClosed → CFinished
 handed_closed x = handed_end x.ending x

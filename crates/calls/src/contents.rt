@@ -1,11 +1,10 @@
 // The fields of a record.
 ghost use Rattle.calls.specs.Contents.{FieldsGiven};
 
-use record::Contents;
-use shapes::{CFields, fields_out};
+use shapes::CFields;
 
 // The answer, and the fields after it.
-#[derive(Clone, Copy)]
+#[derive(Clone, Copy, Debug, PartialEq, Eq)]
 pub struct CContents {
     pub answer: u8,
     pub fields: CFields,
@@ -14,15 +13,14 @@ pub struct CContents {
 pub fn fields(fields: CFields, r: &[u8]) -> CContents
     ensures { FieldsGiven fields r.now result }
 {
-    let contents = record::fields(r);
-    match contents {
-        Contents::Fields(f) => CContents {
+    match record::fields(r) {
+        Ok(f) => CContents {
             answer: 0,
-            fields: fields_out(f),
+            fields: CFields::from(f),
         },
-        Contents::Refused(n) => CContents {
-            answer: n,
-            fields: fields,
+        Err(refusal) => CContents {
+            answer: refusal.number(),
+            fields,
         },
     }
 }

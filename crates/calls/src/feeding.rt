@@ -1,90 +1,59 @@
 // Many records a call.
 ghost use Rattle.std.specs.Prelude.{◌≡◌};
-ghost use Rattle.reader.specs.Buffers.{buffers};
-ghost use Rattle.calls.specs.Feeding.{ready_by, handed_fed, FeedGiven};
+ghost use Rattle.reader.specs.Lent.{held, SameLent};
+ghost use Rattle.calls.specs.Feeding.{handed_fed, FeedGiven};
+ghost use Rattle.calls.specs.Inner.Readying.{ready_state};
 
 use feed::Fed;
-use shapes::{CFed, CState, fed_out, is_state, state_in, state_out};
-use state::is_sound;
+use reader::Lent;
+use record::Refusal;
+use shapes::{CFed, CState};
+use state::{State, is_sound};
 
 // The answer to the call, and the state and the report after it.
-#[derive(Clone, Copy)]
+#[derive(Clone, Copy, Debug, PartialEq, Eq)]
 pub struct CFeeding {
     pub answer: u8,
     pub state: CState,
     pub fed: CFed,
 }
 
-// Rule 1: is it a state that passes the list, and are the buffers of their sizes?
-#[tactic(auto, unfolding(crate::specs::Feeding::ready_by))]
-fn is_ready(state: CState, sized: bool) -> bool
-    ensures { result ≡ ready_by state sized }
+// Rule 1: the state, where it is one that passes the list and the buffers are of their sizes. `sized` is a flag, as in
+// `ready_by`: the buffers stay with the caller.
+#[tactic(auto, unfolding(shapes::specs::States::state_of, crate::specs::Feeding::ready_by, crate::specs::Inner::Readying::ready_state))]
+fn ready(state: CState, sized: bool) -> Option<State>
+    ensures { result ≡ ready_state state sized }
 {
-    if !is_state(state) {
-        return false;
-    }
     if !sized {
-        return false;
+        return None;
     }
-    is_sound(state_in(state))
+    let known = State::try_from(state).ok()?;
+    if is_sound(known) { Some(known) } else { None }
 }
 
-fn hand_over_fed(x: Fed) -> CFeeding
-    ensures { result ≡ handed_fed x }
-{
-    CFeeding {
-        answer: 0,
-        state: state_out(x.state),
-        fed: fed_out(x.at, x.rule, x.closed),
+impl From<Fed> for CFeeding {
+    ghost from_gives = { λ x y. y ≡ handed_fed x };
+
+    #[tactic(auto, unfolding(record::specs::Refusals::number_or_0))]
+    fn from(x: Fed) -> CFeeding {
+        CFeeding {
+            answer: 0,
+            state: CState::from(x.state),
+            fed: CFed::new(x.at, x.refusal.map_or(0, Refusal::number), x.closed),
+        }
     }
 }
 
-pub fn feed(
-    state: CState,
-    fed: CFed,
-    open_cells: &mut [u8],
-    finished_cells: &mut [u8],
-    open_samples: &mut [i16],
-    finished_samples: &mut [i16],
-    open_snapshot: &mut [u8],
-    first_snapshot: &mut [u8],
-    second_snapshot: &mut [u8],
-    bytes: &[u8],
-) -> CFeeding
-    ensures { FeedGiven state fed
-        (buffers open_cells.old finished_cells.old open_samples.old finished_samples.old
-        open_snapshot.old first_snapshot.old second_snapshot.old)
-        bytes.now result
-        (buffers open_cells.new finished_cells.new open_samples.new finished_samples.new
-        open_snapshot.new first_snapshot.new second_snapshot.new) }
+pub fn feed(state: CState, fed: CFed, lent: &mut Lent, bytes: &[u8]) -> CFeeding
+    ensures is { FeedGiven state fed (held lent.old) bytes.now result (held lent.new) }
+    ensures same_references { SameLent lent.old lent.new }
 {
-    let sized = reader::right_sizes(
-        open_cells.len(),
-        finished_cells.len(),
-        open_samples.len(),
-        finished_samples.len(),
-        open_snapshot.len(),
-        first_snapshot.len(),
-        second_snapshot.len(),
-    );
-    if !is_ready(state, sized) {
+    let Some(known) = ready(state, lent.is_sized()) else {
         return CFeeding {
             answer: 1,
-            state: state,
-            fed: fed,
+            state,
+            fed,
         };
-    }
-    let x = feed::feed(
-        state_in(state),
-        open_cells,
-        finished_cells,
-        open_samples,
-        finished_samples,
-        open_snapshot,
-        first_snapshot,
-        second_snapshot,
-        bytes,
-        0,
-    );
-    hand_over_fed(x)
+    };
+    CFeeding::from(feed::feed(known, lent, bytes, 0))
 }

@@ -1,14 +1,14 @@
 // Step and finish.
 ghost use Rattle.std.specs.Prelude.{◌≡◌};
-ghost use Rattle.reader.specs.Buffers.{buffers};
-ghost use Rattle.calls.specs.Reading.{handed_closed, StepGiven, FinishGiven};
-ghost use Rattle.calls.specs.Inner.Handing.{not_zero, handed_as};
+ghost use Rattle.reader.specs.Lent.{held, SameLent};
+ghost use Rattle.calls.specs.Reading.{handed, handed_closed, StepGiven, FinishGiven};
 
-use shapes::{CClosed, CReport, CState, closed_out, is_state, report_out, state_in, state_out};
-use state::{Answer, Ending, Finished, Stepped};
+use reader::Lent;
+use shapes::{CClosed, CReport, CState};
+use state::{Finished, State, Stepped};
 
 // The answer, and the state and the report after it.
-#[derive(Clone, Copy)]
+#[derive(Clone, Copy, Debug, PartialEq, Eq)]
 pub struct CStepped {
     pub answer: u8,
     pub state: CState,
@@ -16,136 +16,76 @@ pub struct CStepped {
 }
 
 // Finish's answer, the state after it, and what it closed.
-#[derive(Clone, Copy)]
+#[derive(Clone, Copy, Debug, PartialEq, Eq)]
 pub struct CFinished {
     pub answer: u8,
     pub state: CState,
     pub closed: CClosed,
 }
 
-// The number of a refusal is never 0. It is said here in a form that the compiler sees: the exported function stores only where the
-// answer is 0, and what it would store of a refusal is then never put together.
-#[tactic(auto, unfolding(crate::specs::Inner::Handing::not_zero))]
-fn not_zero(n: u8) -> u8
-    ensures { result ≡ not_zero n }
-{
-    if n == 0 {
-        return 1;
-    }
-    n
-}
-
 // Of an accepted record the state after it and its report; a refusal leaves both as found.
+#[tactic(auto, unfolding(crate::specs::Reading::handed))]
 fn hand_over(x: Stepped, state: CState, report: CReport) -> CStepped
-    ensures { result ≡ handed_as x state report }
+    ensures { result ≡ handed x state report }
 {
-    let answer = x.answer;
-    match answer {
-        Answer::Refused(n) => CStepped {
-            answer: not_zero(n),
-            state: state,
-            report: report,
+    match x.answer {
+        Err(refusal) => CStepped {
+            answer: refusal.number(),
+            state,
+            report,
         },
-        Answer::Accepted(taken) => CStepped {
+        Ok(taken) => CStepped {
             answer: 0,
-            state: state_out(x.state),
-            report: report_out(taken, x.closed),
+            state: CState::from(x.state),
+            report: CReport::new(taken, x.closed),
         },
     }
 }
 
-pub fn step(
-    state: CState,
-    report: CReport,
-    open_cells: &mut [u8],
-    finished_cells: &mut [u8],
-    open_samples: &mut [i16],
-    finished_samples: &mut [i16],
-    open_snapshot: &mut [u8],
-    first_snapshot: &mut [u8],
-    second_snapshot: &mut [u8],
-    r: &[u8],
-) -> CStepped
-    ensures { StepGiven state report
-        (buffers open_cells.old finished_cells.old open_samples.old finished_samples.old
-        open_snapshot.old first_snapshot.old second_snapshot.old)
-        r.now result
-        (buffers open_cells.new finished_cells.new open_samples.new finished_samples.new
-        open_snapshot.new first_snapshot.new second_snapshot.new) }
+pub fn step(state: CState, report: CReport, lent: &mut Lent, r: &[u8]) -> CStepped
+    ensures is { StepGiven state report (held lent.old) r.now result (held lent.new) }
+    ensures same_references { SameLent lent.old lent.new }
 {
-    if !is_state(state) {
+    let Ok(known) = State::try_from(state) else {
         return CStepped {
             answer: 1,
-            state: state,
-            report: report,
+            state,
+            report,
         };
-    }
-    let x = reader::step(
-        state_in(state),
-        open_cells,
-        finished_cells,
-        open_samples,
-        finished_samples,
-        open_snapshot,
-        first_snapshot,
-        second_snapshot,
-        r,
-    );
+    };
+    let x = reader::step(known, lent, r);
     hand_over(x, state, report)
 }
 
+#[tactic(auto, unfolding(crate::specs::Reading::handed_closed))]
 fn hand_over_closed(x: Finished, state: CState, closed: CClosed) -> CFinished
     ensures { result ≡ handed_closed x state closed }
 {
-    let ending = x.ending;
-    match ending {
-        Ending::Refused(n) => CFinished {
-            answer: n,
-            state: state,
-            closed: closed,
+    match x.ending {
+        Err(refusal) => CFinished {
+            answer: refusal.number(),
+            state,
+            closed,
         },
-        Ending::Done => CFinished {
+        Ok(()) => CFinished {
             answer: 0,
-            state: state_out(x.state),
-            closed: closed_out(x.closed),
+            state: CState::from(x.state),
+            closed: CClosed::from(x.closed),
         },
     }
 }
 
-pub fn finish(
-    state: CState,
-    closed: CClosed,
-    open_cells: &mut [u8],
-    finished_cells: &mut [u8],
-    open_samples: &mut [i16],
-    finished_samples: &mut [i16],
-    open_snapshot: &mut [u8],
-    first_snapshot: &mut [u8],
-    second_snapshot: &mut [u8],
-) -> CFinished
-    ensures { FinishGiven state closed
-        (buffers open_cells.old finished_cells.old open_samples.old finished_samples.old
-        open_snapshot.old first_snapshot.old second_snapshot.old)
-        result
-        (buffers open_cells.new finished_cells.new open_samples.new finished_samples.new
-        open_snapshot.new first_snapshot.new second_snapshot.new) }
+pub fn finish(state: CState, closed: CClosed, lent: &mut Lent) -> CFinished
+    ensures is { FinishGiven state closed (held lent.old) result (held lent.new) }
+    ensures same_references { SameLent lent.old lent.new }
 {
-    if !is_state(state) {
+    let Ok(known) = State::try_from(state) else {
         return CFinished {
             answer: 1,
-            state: state,
-            closed: closed,
+            state,
+            closed,
         };
-    }
-    let x = reader::finish(
-        state_in(state),
-        open_cells,
-        finished_cells,
-        open_samples,
-        finished_samples,
-        open_snapshot,
-        first_snapshot,
-        second_snapshot,
-    );
+    };
+    let x = reader::finish(known, lent);
     hand_over_closed(x, state, closed)
 }

@@ -78,7 +78,7 @@ fn rest_carrier(x: usize) -> usize
     half + 11 + (y - 305) / 51
 }
 
-// The type that carries cell p; 36 where none does.
+// The type that carries cell p; 36 where none does: a number past the types and no option, as the definition `carrier` has it.
 pub fn carrier_of(p: usize) -> usize
     ensures { result ≡ carrier p }
 {

@@ -3,7 +3,7 @@ ghost use Rattle.std.specs.Prelude.{◌≡◌};
 ghost use Rattle.carriage.specs.RowNumbers.{numbers_of};
 
 // In frame order: how many samples, of 16 bytes each, and the first cell of each; the first header byte and how many; the first
-// 3D byte, for what is left of the 83.
+// 3D byte, for what is left of the 83. Five places and a count beside them: a row is a line of the table, and no heap holds a shorter list.
 #[derive(Clone, Copy)]
 pub struct Numbers(pub usize, pub [usize; 5], pub usize, pub usize, pub usize);
 

@@ -2,11 +2,13 @@
 #![tactic(auto)]
 
 mod laying;
+mod missing;
 mod raw;
 
 use carriage::CELLS;
-pub use laying::{Placed, lay};
-pub use raw::{Raw, cell};
+pub use laying::{NoSuchPlace, lay};
+pub use missing::Missing;
+pub use raw::Accumulated;
 
 // The cells, then the 9 bytes of top bit pairs.
 pub const CELLS_SIZE: usize = CELLS + 9;

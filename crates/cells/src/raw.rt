@@ -1,41 +1,44 @@
 // The byte of a cell, where its frame is held.
 ghost use Rattle.std.specs.Prelude.{◌≡◌};
-ghost use Rattle.cells.specs.Raw.{holds_cell, CellIs};
+ghost use Rattle.cells.specs.Raw.{is_cell, holds_cell, CellIs};
 
-use crate::CELLS_SIZE;
+use crate::{CELLS_SIZE, Missing};
 use carriage::CELLS;
 use record::FRAME_MARKS;
 
-// The byte of a cell, or why there is none.
+// The cells of an accumulation; `held` has bit u set when the frame of type u is held.
 #[derive(Clone, Copy)]
-pub enum Raw {
-    Byte(u8),
-    Absent,
-    NoSuchPlace,
+pub struct Accumulated<'a> {
+    pub cells: &'a [u8],
+    pub held: u64,
 }
 
-// Is the frame held that carries cell p?
-fn holds_cell(held: u64, p: usize) -> bool
-    ensures { result ≡ holds_cell held p }
-{
-    (held >> carriage::carrier_of(p)) % 2 == 1
-}
+impl Accumulated<'_> {
+    // Is there a cell p, and may it be asked for?
+    fn has(self, p: usize) -> bool
+        ensures { result ≡ is_cell self.entry.cells.now self.entry.held p }
+    {
+        self.cells.len() == CELLS_SIZE && self.held < FRAME_MARKS && p < CELLS
+    }
 
-// Cell p, 0 to 2,987; `held` has bit u set when the frame of type u is held.
-pub fn cell(cells: &[u8], held: u64, p: usize) -> Raw
-    ensures { CellIs cells.now held p result }
-{
-    if cells.len() != CELLS_SIZE {
-        return Raw::NoSuchPlace;
+    // Is the frame held that carries cell p?
+    #[tactic(auto, using(carriage::proofs::EachCell::carrier_small))]
+    fn holds_cell(self, p: usize) -> bool
+        ensures { result ≡ holds_cell self.entry.held p }
+    {
+        (self.held >> carriage::carrier_of(p)) % 2 == 1
     }
-    if FRAME_MARKS <= held {
-        return Raw::NoSuchPlace;
+
+    // Cell p, 0 to 2,987.
+    pub fn cell(self, p: usize) -> Result<u8, Missing>
+        ensures { CellIs self.entry.cells.now self.entry.held p result }
+    {
+        if !self.has(p) {
+            return Err(Missing::NoSuchPlace);
+        }
+        if !self.holds_cell(p) {
+            return Err(Missing::Absent);
+        }
+        Ok(self.cells[p])
     }
-    if CELLS <= p {
-        return Raw::NoSuchPlace;
-    }
-    if !holds_cell(held, p) {
-        return Raw::Absent;
-    }
-    Raw::Byte(cells[p])
 }

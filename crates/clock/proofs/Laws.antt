@@ -8,47 +8,23 @@ use native.Mathlib.Omega.{arith}
 use lib.Dec.{eqb, ltb, leb}
 use borrow.Author.Tests.{eqb-true, eqb-false, ltb-true, ltb-false, leb-true, lt-ltb, le-ltb, le-leb, lt-leb, ne_eqb}
 use Rattle.prelude.proofs.Conds.{two, second}
+use Rattle.std.specs.Prelude.{Result, Ok, Err}
 use Rattle.record.specs.declared.Record.{Record}
+use Rattle.record.specs.declared.refusal.Refusal.{Refusal}
+use Rattle.record.specs.declared.refusal.Refusal.TheVariants.{NotLater, PastTurns}
 use Rattle.clock.specs.Clock.{circle, turns, full_counts, turn_of, own_of, ahead, farthest, later, turn_at, turn_fits, count_of, arrival_at}
 use Rattle.clock.specs.Clock.{is_later, has_turn, dated, accepted, unset, begun, clock_sound}
 use Rattle.clock.specs.declared.Clock.{Clock}
-use Rattle.clock.specs.declared.Arrival.{Arrival}
-use Rattle.clock.specs.declared.Arrival.TheVariants.{At, NotLater, PastTurns}
 
 -- where a record arrives
 module _ (c : Clock) (f : Record) where
   -- the three outcomes by the two tests
-  abbrev outcome : Bool → Bool → Arrival
-  outcome t u = cond t (cond u (At (dated c f)) PastTurns) NotLater
+  abbrev pub outcome : Bool → Bool → Result ℕ Refusal
+  outcome t u = cond t (cond u (Ok (dated c f)) (Err PastTurns)) (Err NotLater)
 
-  outcome_is : arrival_at c f.count ≡ outcome (is_later c f) (has_turn c f)
+  pub outcome_is : arrival_at c f.count ≡ outcome (is_later c f) (has_turn c f)
   unfolding arrival_at is_later has_turn dated
   outcome_is = refl
-
-  pub arrives : (d : ℕ) → arrival_at c f.count ≡ At d → (is_later c f ≡ true) × (has_turn c f ≡ true) × (d ≡ dated c f)
-  arrives d e = go (is_later c f) (has_turn c f) refl refl (sym outcome_is ∙ e)
-    where
-      go : (t u : Bool) → is_later c f ≡ t → has_turn c f ≡ u → outcome t u ≡ At d
-          → (is_later c f ≡ true) × (has_turn c f ≡ true) × (d ≡ dated c f)
-      go true true p q e = (p, q, cc)
-      go true false p q e = let y : ◌≡◌ {A = ℕ} 0 1 = cc in absurd (omega arith)
-      go false u p q e = let y : ◌≡◌ {A = ℕ} 0 1 = cc in absurd (omega arith)
-
-  pub arrives_not : arrival_at c f.count ≡ NotLater → is_later c f ≡ false
-  arrives_not e = go (is_later c f) (has_turn c f) refl (sym outcome_is ∙ e)
-    where
-      go : (t u : Bool) → is_later c f ≡ t → outcome t u ≡ NotLater → is_later c f ≡ false
-      go true true p e = cc
-      go true false p e = cc
-      go false u p e = p
-
-  pub arrives_past : arrival_at c f.count ≡ PastTurns → (is_later c f ≡ true) × (has_turn c f ≡ false)
-  arrives_past e = go (is_later c f) (has_turn c f) refl refl (sym outcome_is ∙ e)
-    where
-      go : (t u : Bool) → is_later c f ≡ t → has_turn c f ≡ u → outcome t u ≡ PastTurns → (is_later c f ≡ true) × (has_turn c f ≡ false)
-      go true true p q e = let y : ◌≡◌ {A = ℕ} 0 1 = cc in absurd (omega arith)
-      go true false p q e = (p, q)
-      go false u p q e = let y : ◌≡◌ {A = ℕ} 0 1 = cc in absurd (omega arith)
 
 -- once something was accepted: how far ahead a later record lies, and that it stands as far above the last
 module _ (c : Clock) (n : ℕ) (a : c.any ≡ true) where
@@ -83,11 +59,11 @@ module _ (c : Clock) (n : ℕ) (a : c.any ≡ true) where
       go false t = sym (le-ltb (c.last + ahead c n) full_counts (omega (arith, ltb-false (turn_at c n) turns t, ahead_is l)))
 
   -- where a record arrives, by how far its count lies ahead
-  pub comes_again : ahead c n ≡ 0 → arrival_at c n ≡ NotLater
+  pub comes_again : ahead c n ≡ 0 → arrival_at c n ≡ Err NotLater
   unfolding arrival_at
   comes_again e = rw (later_is, lt-leb 1 (ahead c n) (omega arith))
 
-  pub comes_far : farthest < ahead c n → arrival_at c n ≡ NotLater
+  pub comes_far : farthest < ahead c n → arrival_at c n ≡ Err NotLater
   unfolding arrival_at
   comes_far h = rw (later_is, lt-leb (ahead c n) farthest h, le-leb 1 (ahead c n) (omega arith))
 
@@ -95,18 +71,21 @@ module _ (c : Clock) (n : ℕ) (a : c.any ≡ true) where
     is_later_lem : later c n ≡ true
     is_later_lem = later_is ∙ rw (le-leb 1 (ahead c n) p, le-leb (ahead c n) farthest q)
 
-    pub comes_past : full_counts ≤ c.last + ahead c n → arrival_at c n ≡ PastTurns
+    pub comes_past : full_counts ≤ c.last + ahead c n → arrival_at c n ≡ Err PastTurns
     unfolding arrival_at
     comes_past h = rw (is_later_lem, turn_fits_lem is_later_lem, le-ltb (c.last + ahead c n) full_counts h)
 
-    pub comes_at : c.last + ahead c n < full_counts → arrival_at c n ≡ At (c.last + ahead c n)
+    pub comes_at : c.last + ahead c n < full_counts → arrival_at c n ≡ Ok (c.last + ahead c n)
     unfolding arrival_at
     comes_at h = rw (is_later_lem, turn_fits_lem is_later_lem, lt-ltb (c.last + ahead c n) full_counts h, ahead_is is_later_lem)
 
 -- before anything was accepted, a record stands in turn 0
-pub comes_first : (c : Clock) (n : ℕ) → c.any ≡ false → arrival_at c n ≡ At (own_of n)
+pub comes_first : (c : Clock) (n : ℕ) → c.any ≡ false → arrival_at c n ≡ Ok (own_of n)
 unfolding arrival_at later turn_fits turn_at count_of
 comes_first c n a = rw (a, zero-mul circle, zero-add (own_of n))
+
+-- what becomes of a record with a count
+pub ruleset comes = (comes_first, comes_again, comes_far, comes_past, comes_at)
 
 -- a later record is above the last accepted
 pub dated_above : (c : Clock) (f : Record) → is_later c f ≡ true → c.any ≡ true → c.last < dated c f

@@ -1,11 +1,11 @@
 -- The reader's clock: what "later" means, the turns, at which full count a record stands, and the clock's part of the state list
 -- (01, "Numbers a refused record gets"; 02, request 1). No decision looks at a record's own count but through this room.
 -- Assumes nothing.
-use Rattle.std.specs.Prelude.{ℕ, ◌+◌, ◌-◌, ◌*◌, ◌/◌, ◌%◌, Bool, true, false, cond, not, ◌&&◌, ◌||◌, eqb, ltb, leb}
+use Rattle.std.specs.Prelude.{ℕ, ◌+◌, ◌-◌, ◌*◌, ◌/◌, ◌%◌, Bool, true, false, cond, not, ◌&&◌, ◌||◌, eqb, ltb, leb, Result, Ok, Err}
 use Rattle.record.specs.declared.Record.{Record}
+use Rattle.record.specs.declared.refusal.Refusal.{Refusal}
+use Rattle.record.specs.declared.refusal.Refusal.TheVariants.{NotLater, PastTurns}
 use Rattle.clock.specs.declared.Clock.{Clock}
-use Rattle.clock.specs.declared.Arrival.{Arrival}
-use Rattle.clock.specs.declared.Arrival.TheVariants.{At, NotLater, PastTurns}
 
 -- 2^24: a record's own count is below it, and goes round
 abbrev pub circle : ℕ
@@ -50,8 +50,8 @@ turn_fits c n = ltb (turn_at c n) turns
 unfoldable pub count_of : Clock → ℕ → ℕ
 count_of c n = turn_at c n * circle + own_of n
 
-unfoldable pub arrival_at : Clock → ℕ → Arrival
-arrival_at c n = cond (later c n) (cond (turn_fits c n) (At (count_of c n)) PastTurns) NotLater
+unfoldable pub arrival_at : Clock → ℕ → Result ℕ Refusal
+arrival_at c n = cond (later c n) (cond (turn_fits c n) (Ok (count_of c n)) (Err PastTurns)) (Err NotLater)
 
 -- of a record, by the count in its fields: whether it is later, whether its turn fits, and its full count
 unfoldable pub is_later : Clock → Record → Bool

@@ -5,8 +5,11 @@
 ghost use Rattle.std.specs.Prelude.{◌≡◌};
 ghost use Rattle.clock.specs.Clock.{ahead, arrival_at, accepted, unset, begun, clock_sound};
 
-// Whether anything was accepted, and the full count of the last accepted record: its turn is what lies above 24 bits.
-#[derive(Clone, Copy)]
+use record::Refusal;
+
+// Whether anything was accepted, and the full count of the last accepted record: its turn is what lies above 24 bits. A flag and a
+// number, since a state may be handed in where the number isn't 0 though nothing was accepted, and is refused (`clock_sound`).
+#[derive(Clone, Copy, Debug, PartialEq, Eq)]
 pub struct Clock {
     pub any: bool,
     pub last: u64,
@@ -20,14 +23,6 @@ const FARTHEST: u64 = 8388607;
 
 // Full counts of the state are below it: 2^36.
 pub const FULL_COUNTS: u64 = 68719476736;
-
-// The full count at which a record stands; or it isn't later; or its turn would be past the last.
-#[derive(Clone, Copy)]
-pub enum Arrival {
-    At(u64),
-    NotLater,
-    PastTurns,
-}
 
 pub fn unset() -> Clock
     ensures { result ≡ unset }
@@ -52,35 +47,33 @@ fn ahead(clock: Clock, count: u32) -> u64
     (count as u64 + CIRCLE - clock.last % CIRCLE) % CIRCLE
 }
 
-// Of a record whose own field says `count`. A later one stands as far above the last accepted as it lies ahead, whatever its turn.
-#[tactic(auto, using(crate::proofs::Laws::comes_again))]
-pub fn arrival_of(clock: Clock, count: u32) -> Arrival
+// The full count at which a record stands whose own field says `count`; or it isn't later; or its turn would be past the last. A later
+// one stands as far above the last accepted as it lies ahead, whatever its turn.
+#[tactic(auto, using(crate::proofs::Laws::comes))]
+pub fn arrival_of(clock: Clock, count: u32) -> Result<u64, Refusal>
     ensures { result ≡ arrival_at clock count }
 {
     if !clock.any {
-        return Arrival::At(count as u64 % CIRCLE);
+        return Ok(count as u64 % CIRCLE);
     }
     let ahead = ahead(clock, count);
     if ahead == 0 {
-        return Arrival::NotLater;
+        return Err(Refusal::NotLater);
     }
     if FARTHEST < ahead {
-        return Arrival::NotLater;
+        return Err(Refusal::NotLater);
     }
     if FULL_COUNTS - ahead <= clock.last {
-        return Arrival::PastTurns;
+        return Err(Refusal::PastTurns);
     }
-    Arrival::At(clock.last + ahead)
+    Ok(clock.last + ahead)
 }
 
 // Was something accepted, or is the number 0?
 pub fn begun(clock: Clock, n: u64) -> bool
     ensures { result ≡ begun clock n }
 {
-    if clock.any {
-        return true;
-    }
-    n == 0
+    clock.any || n == 0
 }
 
 // Does the clock pass its part of the list?
@@ -88,8 +81,5 @@ pub fn begun(clock: Clock, n: u64) -> bool
 pub fn is_sound(clock: Clock) -> bool
     ensures { result ≡ clock_sound clock }
 {
-    if FULL_COUNTS <= clock.last {
-        return false;
-    }
-    begun(clock, clock.last)
+    clock.last < FULL_COUNTS && begun(clock, clock.last)
 }

@@ -69,3 +69,5 @@ module _ (c : ℕ) where
   pub high_shifted : c < 256 → (c / 16 ≡ 0 → ⊥) → shifted 17 c % 2 ^ 64 - 1 ≡ code_high c
   unfolding code_high
   high_shifted h n = rw ((code c h).high_kept, ne_eqb)
+
+pub ruleset ends = (low_small, high_small, low_shifted, high_shifted)

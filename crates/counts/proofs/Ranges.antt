@@ -2,12 +2,13 @@
 -- Assumes nothing.
 use mathlib.Core.Path.{◌≡◌, refl, sym, subst}
 use mathlib.Core.Bool.{Bool, true, false, cond}
+use Rattle.std.specs.Prelude.{◌≢◌}
 use Prim.Native.Nat.{ℕ, zero, suc, ◌+◌, ◌*◌, ◌-◌, ◌/◌, ◌<◌, ◌≤◌}
 use native.Mathlib.Omega.{arith}
 use native.Mathlib.Decide.{dec_lt}
 use lib.Dec.{leb}
 use borrow.Author.Tests.{leb-true, leb-false}
-use Rattle.counts.specs.Codes.{code_low, code_high, Lies, coded_counts, OneCode, divisor, range_of}
+use Rattle.counts.specs.Codes.{code_low, code_high, Lies, coded_counts, OneCode, divisor, IsNoDivisor, range_of}
 use Rattle.counts.specs.declared.codes.Divided.{Divided}
 use Rattle.counts.specs.declared.codes.Divided.TheVariants.{By1, By8, By16}
 use Rattle.counts.specs.declared.Range.{Range}
@@ -82,23 +83,33 @@ in_divided x c By1 h = omega arith
 in_divided x c By8 h = omega arith
 in_divided x c By16 h = omega arith
 
--- the products are far below 64 bits
-pub record Fitting (n l h : ℕ) : Type 0 where
-  pub some : 1 ≤ n
-  pub few : n ≤ 16
-  pub low : n * l < 8388608
-  pub high : n * h < 8388608
-
-small : (d : Divided) (l h : ℕ) → l ≤ h → h < coded_counts → Fitting (divisor d) l h
+-- a number other than the three
+pub no_divisor : (n : ℕ) → n ≢ 1 → n ≢ 8 → n ≢ 16 → IsNoDivisor n
 unfolding divisor
-small By1 l h k m = omega arith
-small By8 l h k m = omega arith
-small By16 l h k m = omega arith
+no_divisor n h k l By1 e = h (sym e)
+no_divisor n h k l By8 e = k (sym e)
+no_divisor n h k l By16 e = l (sym e)
 
-module _ (c : ℕ) (d : Divided) (n l h : ℕ) (en : n ≡ divisor d) (el : l ≡ code_low c) (eh : h ≡ code_high c) where
-  pub fitting : c < 256 → Fitting n l h
-  fitting b = rw (en, el, eh) (small d (code_low c) (code_high c) (code c b).full (code c b).small)
+-- the products are far below 64 bits
+few : (d : Divided) → (1 ≤ divisor d) × (divisor d ≤ 16)
+unfolding divisor
+few By1 = (omega arith, omega arith)
+few By8 = (omega arith, omega arith)
+few By16 = (omega arith, omega arith)
 
-  pub scaled : record { low = n * l; high = n * h + (n - 1) } ≡ range_of c d
-  unfolding range_of
-  scaled = cc
+pub some_divided : (d : Divided) → 1 ≤ divisor d
+some_divided d = (few d).0
+
+small : (d : Divided) (n : ℕ) → n < coded_counts → divisor d * n < 8388608
+unfolding divisor
+small By1 n h = omega arith
+small By8 n h = omega arith
+small By16 n h = omega arith
+
+pub low_product : (d : Divided) (c : ℕ) → c < 256 → divisor d * code_low c < 8388608
+low_product d c h = small d (code_low c) (omega (arith, (code c h).full, (code c h).small))
+
+pub high_product : (d : Divided) (c : ℕ) → c < 256 → divisor d * code_high c + divisor d < 8388625
+high_product d c h = omega (arith, small d (code_high c) (code c h).small, few d)
+
+pub ruleset products = (some_divided, low_product, high_product)

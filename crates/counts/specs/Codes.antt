@@ -1,7 +1,8 @@
 -- Counts from codes (01, "Counts"; 000, section 2.6).
 -- Assumes nothing.
-use Rattle.std.specs.Prelude.{ℕ, ◌+◌, ◌*◌, ◌-◌, ◌/◌, ◌%◌, ◌^◌, ◌<◌, ◌≤◌, cond, ◌≡◌, eqb}
+use Rattle.std.specs.Prelude.{ℕ, ◌+◌, ◌*◌, ◌-◌, ◌/◌, ◌%◌, ◌^◌, ◌<◌, ◌≤◌, cond, ◌≡◌, eqb, ◌≢◌, Result, MatchResult}
 use Rattle.counts.specs.declared.codes.Divided.{Divided}
+use Rattle.counts.specs.declared.codes.NoDivisor.{NoDivisor}
 use Rattle.counts.specs.declared.codes.Divided.TheVariants.{By1, By8, By16}
 use Rattle.counts.specs.declared.Range.{Range}
 
@@ -33,6 +34,13 @@ unfoldable pub divisor : Divided → ℕ
 divisor By1 = 1
 divisor By8 = 8
 divisor By16 = 16
+
+-- what has a number for its divisor, where something has
+abbrev pub IsNoDivisor : ℕ → Type 0
+IsNoDivisor n = (d : Divided) → divisor d ≢ n
+
+abbrev pub DividedIs : ℕ → Result Divided NoDivisor → Type 0
+DividedIs n r = MatchResult r (λ d. divisor d ≡ n) (λ _. IsNoDivisor n)
 
 -- "8 x low to 8 x high + 7"; "16 x low to 16 x high + 15"; undivided, low to high
 abbrev pub times : ℕ → ℕ → Range

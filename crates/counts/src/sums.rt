@@ -3,27 +3,13 @@ ghost use Rattle.counts.specs.Sums.{SumIs};
 
 use crate::Range;
 
-// A range, or "too large" for one past 64 bits.
-#[derive(Clone, Copy)]
-pub enum Sum {
-    Within(Range),
-    TooLarge,
-}
-
-const MOST: u64 = 18446744073709551615;
-
-// Lows and highs added.
-pub fn add(a: Range, b: Range) -> Sum
+// Lows and highs added; none where either is past 64 bits.
+#[tactic(auto, unfolding(crate::specs::Sums::fits64))]
+pub fn add(a: Range, b: Range) -> Option<Range>
     ensures { SumIs a b result }
 {
-    if MOST - a.low < b.low {
-        return Sum::TooLarge;
-    }
-    if MOST - a.high < b.high {
-        return Sum::TooLarge;
-    }
-    Sum::Within(Range {
-        low: a.low + b.low,
-        high: a.high + b.high,
+    Some(Range {
+        low: a.low.checked_add(b.low)?,
+        high: a.high.checked_add(b.high)?,
     })
 }

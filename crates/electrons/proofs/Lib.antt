@@ -1,4 +1,3 @@
 pub mod Bins
 pub mod Meant
-pub mod Told
 pub mod Single

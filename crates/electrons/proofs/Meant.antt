@@ -1,52 +1,60 @@
 -- What a raw byte leads to, of an accumulation or of a snapshot: the answer from a byte that there is, and where it may not be there.
 -- Assumes nothing.
-use mathlib.Core.Path.{◌≡◌, refl, subst⁻¹, ◌∙◌}
-use mathlib.Core.Bool.{Bool, true, false, cond, ◌&&◌, ◌||◌}
+use mathlib.Core.Path.{◌≡◌, refl, sym, subst⁻¹, ◌∙◌}
+use mathlib.Core.Bool.{Bool, true, false, cond, ◌&&◌, ◌||◌, and-true, and-false}
 use Prim.Native.Nat.{ℕ, ◌<◌}
-use native.Mathlib.Omega.{arith}
 use lib.Dec.{ltb}
-use borrow.Author.Tests.{lt-ltb, le-ltb}
+use borrow.Author.Tests.{lt-ltb}
+use Rattle.std.specs.Prelude.{Some, None, Result, Err}
+use Rattle.std.proofs.lemmas.Option.{cond_some}
 use Rattle.counts.specs.Codes.{range_of}
 use Rattle.counts.specs.declared.Range.{Range}
 use Rattle.counts.specs.declared.codes.Divided.{Divided}
 use Rattle.cells.specs.Bytes.{raw_of}
-use Rattle.cells.specs.declared.raw.Raw.{Raw}
-use Rattle.cells.specs.declared.raw.Raw.TheVariants as raw
+use Rattle.cells.specs.declared.missing.Missing.{Missing}
 use Rattle.electrons.specs.Meaning.{meaning}
-use Rattle.electrons.specs.Questions.{count_said, counts_given, CountIs, count_asked}
-use Rattle.electrons.specs.declared.questions.Count.{Count}
-use Rattle.electrons.specs.declared.scale.Scale.{Scale}
-use Rattle.electrons.specs.declared.scale.Scale.TheVariants.{Known, Unknown}
+use Rattle.electrons.specs.Questions.{Asked, answer, count_said, CountIs}
+use Rattle.electrons.specs.declared.questions.Unknown.{Unknown}
+use Rattle.electrons.specs.declared.questions.Unknown.TheVariants.{NoSuchPlace}
+
+-- the words and the range of an answer follow
+abbrev pub asked : Bool → Bool → Bool → Range → Asked
+asked s t u r = record { place = s; held = t; known = u; range = r }
+
+follows : (s t u : Bool) (r : Range) → CountIs (asked s t u r) (answer (asked s t u r))
+unfolding count_said
+follows true true true r = record { is = refl; says = refl; range = refl }
+follows true true false r = record { is = refl; says = refl; range = refl }
+follows true false u r = record { is = refl; says = refl; range = refl }
+follows false t u r = record { is = refl; says = refl; range = refl }
+
+pub count_is : (q : Asked) (x : Result Range Unknown) → x ≡ answer q → CountIs q x
+count_is q x e = subst⁻¹ (λ y. CountIs q y) e (follows q.place q.held q.known q.range)
 
 -- the answer from a byte that there is: whether it may be asked for, is held, needs no scale, or has it
 pub meant : (x y n h : Bool) (code : ℕ) (d : Divided)
-    → CountIs (record { place = x && true; held = y; known = n || h; range = range_of code d })
-    (meaning (cond (x && true) (cond y (raw.Byte code) raw.Absent) raw.NoSuchPlace) (cond (n || (x && h)) (Known d) Unknown))
-unfolding count_said counts_given
-meant true true true h code d = record { is = refl; says = refl; range = refl }
-meant true true false true code d = record { is = refl; says = refl; range = refl }
-meant true true false false code d = record { is = refl; says = refl; range = refl }
-meant true false n h code d = record { is = refl; says = refl; range = refl }
-meant false y n h code d = record { is = refl; says = refl; range = refl }
+    → meaning (raw_of x y code) (cond (n || (x && h)) (Some d) None) ≡ answer (asked x y (n || h) (range_of code d))
+unfolding raw_of
+meant true true true h code d = refl
+meant true true false true code d = refl
+meant true true false false code d = refl
+meant true false n h code d = refl
+meant false y n h code d = refl
 
--- the answer where there is no such byte
-pub nowhere : (x y k : Bool) (r : Range) (w : Raw) (s : Scale)
-    → CountIs (record { place = x && false; held = y; known = k; range = r }) (meaning (cond (x && false) w raw.NoSuchPlace) s)
-unfolding count_said counts_given
-nowhere true y k r w s = record { is = refl; says = refl; range = refl }
-nowhere false y k r w s = record { is = refl; says = refl; range = refl }
+-- there is no such place
+pub no_place : (t : Bool) (p : ℕ) → cond t (Some p) None ≡ None → t ≡ false
+no_place true p e = cc
+no_place false p e = refl
 
--- byte p of n, asked for where the test t holds: a says whether anything may be asked for, h what is held, f what the bytes are
-module _ (a : Bool) (h : ℕ → Bool) (f : ℕ → ℕ) (n p : ℕ) (d : Divided) where
-  abbrev at : ℕ → Raw
-  at q = raw_of (a && ltb q n) (h q) (f q)
+pub nowhere : (a t : Bool) (q : Asked) (x : Result Range Unknown) → q.place ≡ (a && t) → t ≡ false → x ≡ Err NoSuchPlace → CountIs q x
+nowhere a t q x e f ex = let g : q.place ≡ false = e ∙ rw f (and-false a) in count_is q x (ex ∙ rw g)
 
-  asked_is : (t : Bool) → (t ≡ true → p < n) → CountIs (count_asked (a && t) (h p) (f p) d) (meaning (at (cond t p n)) (Known d))
-  unfolding raw_of
-  asked_is true i = rw lt-ltb (meant a (h p) true true (f p) d)
-  asked_is false i = rw (le-ltb n n (omega arith)) (nowhere a (h p) true (range_of (f p) d) _ (Known d))
-
-  -- a question's answer, from those that the callees give
-  pub asked_told : (t : Bool) → (t ≡ true → p < n) → (q : ℕ) (w : Raw) (x : Count) → q ≡ cond t p n → w ≡ at q → x ≡ meaning w (Known d)
-      → CountIs (count_asked (a && t) (h p) (f p) d) x
-  asked_told t i q w x eq ew ex = subst⁻¹ (λ y. CountIs (count_asked (a && t) (h p) (f p) d) y) (ex ∙ rw (ew, eq)) (asked_is t i)
+-- byte p of n, asked for where the test t holds: a says whether anything may be asked for, h what is held, f what the bytes are; its
+-- counts were divided by d, which is known where k or u says so. The answer, from those that the callees give.
+pub asked_told : (a : Bool) (h : ℕ → Bool) (f : ℕ → ℕ) (n p : ℕ) (d : Divided) (t k u : Bool) → (t ≡ true → p < n)
+    → (q : ℕ) (w : Result ℕ Missing) (x : Result Range Unknown) → cond t (Some p) None ≡ Some q → w ≡ raw_of (a && ltb q n) (h q) (f q)
+    → x ≡ meaning w (cond (k || (a && u)) (Some d) None) → CountIs (asked (a && t) (h p) (k || u) (range_of (f p) d)) x
+asked_told a h f n p d t k u i q w x eq ew ex =
+    let g = cond_some t p q eq in
+    let l : p < n = i g.0 in
+    count_is _ _ (ex ∙ rw (ew, sym g.1, lt-ltb p n l, g.0, and-true a) (meant a (h p) k u (f p) d))

@@ -1,7 +1,7 @@
 -- The questions about an accumulation (01, "Counts"): "no such place", "absent", "scale unknown", a range, in this order.
 -- Assumes nothing.
-use Rattle.std.specs.Prelude.{ℕ, ◌/◌, Bool, true, cond, not, ◌&&◌, ◌||◌, List, ◌≡◌, eqb, ltb, get_or}
-use Rattle.std.proofs.Math.Option.{Option, none, some}
+use Rattle.std.specs.Prelude.{ℕ, ◌/◌, Bool, true, cond, not, ◌&&◌, ◌||◌, List, ◌≡◌, eqb, ltb, get_or, Option, Some, None, Result, Ok, Err}
+use Rattle.std.specs.Result.{result_ok}
 use Rattle.counts.specs.Codes.{range_of}
 use Rattle.counts.specs.declared.Range.{Range}
 use Rattle.counts.specs.declared.codes.Divided.{Divided}
@@ -10,8 +10,8 @@ use Rattle.carriage.specs.Carriage.{sample_size, samples_in, sample_cell, three_
 use Rattle.cells.specs.Words.{Words, no_such_place, absent, scale_unknown, given, said}
 use Rattle.prelude.specs.Marks.{bit_set}
 use Rattle.cells.specs.Raw.{holds_cell, askable}
-use Rattle.electrons.specs.declared.questions.Count.{Count}
-use Rattle.electrons.specs.declared.questions.Count.TheVariants.{Within, ScaleUnknown, Absent, NoSuchPlace}
+use Rattle.electrons.specs.declared.questions.Unknown.{Unknown}
+use Rattle.electrons.specs.declared.questions.Unknown.TheVariants.{ScaleUnknown, Absent, NoSuchPlace}
 
 -- what a question comes to: whether there is such a place, whether its frame is held, whether its scale is known, and the range
 -- that is then answered
@@ -21,8 +21,8 @@ pub record Asked : Type 0 where
   pub known : Bool
   pub range : Range
 
-abbrev pub answer : Asked → Count
-answer q = cond q.place (cond q.held (cond q.known (Within q.range) ScaleUnknown) Absent) NoSuchPlace
+abbrev pub answer : Asked → Result Range Unknown
+answer q = cond q.place (cond q.held (cond q.known (Ok q.range) (Err ScaleUnknown)) (Err Absent)) (Err NoSuchPlace)
 
 abbrev pub asked_words : Asked → Words
 asked_words q = said q.place q.held q.known
@@ -31,24 +31,21 @@ asked_words q = said q.place q.held q.known
 abbrev pub gives : Asked → Bool
 gives q = q.place && (q.held && q.known)
 
--- the words of an answer, and the range that it gives
-unfoldable pub count_said : Count → Words
-count_said (Within r) = given
-count_said ScaleUnknown = scale_unknown
-count_said Absent = absent
-count_said NoSuchPlace = no_such_place
+-- the words of an answer
+abbrev pub unknown_said : Unknown → Words
+unknown_said ScaleUnknown = scale_unknown
+unknown_said Absent = absent
+unknown_said NoSuchPlace = no_such_place
 
-unfoldable pub counts_given : Count → Option Range
-counts_given (Within r) = some r
-counts_given ScaleUnknown = none
-counts_given Absent = none
-counts_given NoSuchPlace = none
+unfoldable pub count_said : Result Range Unknown → Words
+count_said (Ok r) = given
+count_said (Err u) = unknown_said u
 
 -- one answer; and its words and range, which follow
-pub record CountIs (q : Asked) (x : Count) : Type 0 where
+pub record CountIs (q : Asked) (x : Result Range Unknown) : Type 0 where
   pub is : x ≡ answer q
   pub says : count_said x ≡ asked_words q
-  pub range : counts_given x ≡ cond (gives q) (some q.range) none
+  pub range : result_ok x ≡ cond (gives q) (Some q.range) None
 
 -- a byte whose counts were divided by a known number: of 3D, Total and Rate, and all of a snapshot (000, sections 2.3.1 and 2.4.1)
 abbrev pub count_asked : Bool → Bool → ℕ → Divided → Asked
@@ -63,6 +60,10 @@ total_cell = 2
 
 abbrev pub rate_cell : ℕ
 rate_cell = 3
+
+-- how many samples an energy bin has, bin 0-14
+abbrev pub samples_of : ℕ → Option ℕ
+samples_of b = cond (ltb b 15) (Some (samples_in b)) None
 
 -- a sample: energy bin 0-14, a number below the bin's samples, angle 0-15
 abbrev pub has_sample : ℕ → ℕ → ℕ → Bool

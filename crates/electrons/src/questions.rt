@@ -1,73 +1,75 @@
-// The questions, and what a raw cell means (01, "Counts").
+// The questions, and what a raw cell means (01, "Counts"). Bin, number and angle are C's parameters and the definitions' coordinates.
 ghost use Rattle.std.specs.Prelude.{◌≡◌, ◌<◌};
-ghost use Rattle.electrons.specs.Meaning.{meaning};
+ghost use Rattle.electrons.specs.Meaning.{unknown_of, meaning};
 ghost use Rattle.electrons.specs.Questions.{CountIs, total_cell, rate_cell, sample_asked, three_asked, header_asked};
 
-use crate::scale::Scale;
-use cells::Raw;
+use crate::places::{sample_place, three_place};
+use crate::scale::scale_of;
+use cells::{Accumulated, Missing};
 use counts::{Divided, Range};
 
-// The counts that a cell stands for, or why none can be said.
-#[derive(Clone, Copy)]
-pub enum Count {
-    Within(Range),
+// Why no counts can be said.
+#[derive(Clone, Copy, Debug, PartialEq, Eq)]
+pub enum Unknown {
     ScaleUnknown,
     Absent,
     NoSuchPlace,
 }
 
-// What a raw byte means, of an accumulation or of a snapshot.
-pub fn meaning_of(raw: Raw, scale: Scale) -> Count
-    ensures { result ≡ meaning raw scale }
-{
-    match raw {
-        Raw::Byte(code) => match scale {
-            Scale::Known(divided) => Count::Within(counts::range_of(code, divided)),
-            Scale::Unknown => Count::ScaleUnknown,
-        },
-        Raw::Absent => Count::Absent,
-        Raw::NoSuchPlace => Count::NoSuchPlace,
+impl From<Missing> for Unknown {
+    ghost from_gives = { λ m u. u ≡ unknown_of m };
+
+    fn from(missing: Missing) -> Unknown {
+        match missing {
+            Missing::Absent => Unknown::Absent,
+            Missing::NoSuchPlace => Unknown::NoSuchPlace,
+        }
     }
 }
 
-// A sample at one of its 16 angles.
-pub fn sample(cells: &[u8], held: u64, bin: usize, number: usize, angle: usize) -> Count
-    ensures { CountIs (sample_asked cells.now held bin number angle) result }
+// What a raw byte means, of an accumulation or of a snapshot, by what it was divided by, where that is known.
+pub fn meaning_of(raw: Result<u8, Missing>, scale: Option<Divided>) -> Result<Range, Unknown>
+    ensures { result ≡ meaning raw scale }
 {
-    let place = crate::places::sample_place(bin, number, angle);
-    let raw = cells::cell(cells, held, place);
-    let scale = crate::scale::scale_of(cells, held, bin);
-    meaning_of(raw, scale)
+    let code = raw?;
+    let divided = scale.ok_or(Unknown::ScaleUnknown)?;
+    Ok(counts::range_of(code, divided))
+}
+
+// A sample at one of its 16 angles.
+pub fn sample(of: Accumulated, bin: usize, number: usize, angle: usize) -> Result<Range, Unknown>
+    ensures { CountIs (sample_asked of.entry.cells.now of.entry.held bin number angle) result }
+{
+    let place = sample_place(bin, number, angle).ok_or(Unknown::NoSuchPlace)?;
+    meaning_of(of.cell(place), scale_of(of, bin))
 }
 
 // A 3D count.
-pub fn three_d(cells: &[u8], held: u64, step: usize, angle: usize) -> Count
-    ensures { CountIs (three_asked cells.now held step angle) result }
+pub fn three_d(of: Accumulated, step: usize, angle: usize) -> Result<Range, Unknown>
+    ensures { CountIs (three_asked of.entry.cells.now of.entry.held step angle) result }
 {
-    let place = crate::places::three_place(step, angle);
-    let raw = cells::cell(cells, held, place);
-    meaning_of(raw, Scale::Known(Divided::By1))
+    let place = three_place(step, angle).ok_or(Unknown::NoSuchPlace)?;
+    meaning_of(of.cell(place), Some(Divided::By1))
 }
 
 // A count of the header: both were divided by 16.
-fn header_count(cells: &[u8], held: u64, p: usize) -> Count
+fn header_count(of: Accumulated, p: usize) -> Result<Range, Unknown>
     requires { p < 4 }
-    ensures { CountIs (header_asked p cells.now held) result }
+    ensures { CountIs (header_asked p of.entry.cells.now of.entry.held) result }
 {
-    let raw = cells::cell(cells, held, p);
-    meaning_of(raw, Scale::Known(Divided::By16))
+    meaning_of(of.cell(p), Some(Divided::By16))
 }
 
 // Total Counts of the first half-spin, header byte 2.
-pub fn total(cells: &[u8], held: u64) -> Count
-    ensures { CountIs (header_asked total_cell cells.now held) result }
+pub fn total(of: Accumulated) -> Result<Range, Unknown>
+    ensures { CountIs (header_asked total_cell of.entry.cells.now of.entry.held) result }
 {
-    header_count(cells, held, 2)
+    header_count(of, 2)
 }
 
 // The Rate Counter of the first half-spin, header byte 3.
-pub fn rate(cells: &[u8], held: u64) -> Count
-    ensures { CountIs (header_asked rate_cell cells.now held) result }
+pub fn rate(of: Accumulated) -> Result<Range, Unknown>
+    ensures { CountIs (header_asked rate_cell of.entry.cells.now of.entry.held) result }
 {
-    header_count(cells, held, 3)
+    header_count(of, 3)
 }

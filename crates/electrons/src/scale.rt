@@ -3,15 +3,8 @@ ghost use Rattle.std.specs.Prelude.{◌≡◌};
 ghost use Rattle.electrons.specs.Questions.{scalable};
 ghost use Rattle.electrons.specs.Inner.Places.{scale_of};
 
-use cells::Raw;
+use cells::Accumulated;
 use counts::Divided;
-
-// What a byte's counts were divided by, or that the header byte which would say so isn't held.
-#[derive(Clone, Copy)]
-pub enum Scale {
-    Known(Divided),
-    Unknown,
-}
 
 // The header byte that holds the state of the eight bands.
 const STATE: usize = 1;
@@ -20,30 +13,20 @@ const STATE: usize = 1;
 fn can_scale(bin: usize) -> bool
     ensures { result ≡ scalable bin }
 {
-    if bin < 6 {
-        return true;
-    }
-    if bin == 7 {
-        return true;
-    }
-    bin == 8
+    matches!(bin, 0..=5 | 7 | 8)
 }
 
-pub fn scale_of(cells: &[u8], held: u64, bin: usize) -> Scale
-    ensures { result ≡ scale_of cells.now held bin }
+// What a bin's counts were divided by; none where the header byte that would say so isn't held.
+pub fn scale_of(of: Accumulated, bin: usize) -> Option<Divided>
+    ensures { result ≡ scale_of of.entry.cells.now of.entry.held bin }
 {
     if !can_scale(bin) {
-        return Scale::Known(Divided::By1);
+        return Some(Divided::By1);
     }
-    let state = cells::cell(cells, held, STATE);
-    match state {
-        Raw::Byte(bands) => {
-            if (bands >> (bin / 2)) % 2 == 1 {
-                return Scale::Known(Divided::By8);
-            }
-            Scale::Known(Divided::By1)
-        }
-        Raw::Absent => Scale::Unknown,
-        Raw::NoSuchPlace => Scale::Unknown,
+    let bands = of.cell(STATE).ok()?;
+    if (bands >> (bin / 2)) % 2 == 1 {
+        Some(Divided::By8)
+    } else {
+        Some(Divided::By1)
     }
 }

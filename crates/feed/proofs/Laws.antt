@@ -12,7 +12,7 @@ use borrow.Author.Tests.{le-leb, lt-leb}
 use Rattle.buffers.specs.Laying.{patch}
 use Rattle.record.specs.Layout.{size}
 use Rattle.feed.specs.Cutting.{is_whole, RestIs}
-use Rattle.feed.specs.Feeding.{nothing_fed, is_quiet, quiet, Desk, fed_one, feed_up_to, whole_from, feed_all}
+use Rattle.feed.specs.Feeding.{nothing_fed, is_nothing, quiet, Desk, fed_one, feed_up_to, whole_from, feed_all}
 use Rattle.feed.proofs.Cuts.{record_room, whole_fits, whole_left}
 use Rattle.feed.proofs.Rests.{between, in_order}
 use Rattle.feed.proofs.Turns.{loud, feed_more}
@@ -73,7 +73,7 @@ module _ (bytes : List ℕ) where
 abbrev pub moved : ℕ → Desk → Desk
 moved k d =
     let f = d.fed in
-    record { fed = record { from = k + f.from; at = k + f.at; rule = f.rule; state = f.state; closed = f.closed }; lent = d.lent }
+    record { fed = record { from = k + f.from; at = k + f.at; refusal = f.refusal; state = f.state; closed = f.closed }; lent = d.lent }
 
 -- begun there, with nothing told yet
 abbrev pub anew : Desk → ℕ → Desk
@@ -85,7 +85,7 @@ anew_moved d k = rw (add-zero k)
 -- what was told last doesn't matter to what is fed next
 pub feed_anew : (bytes : List ℕ) (d : Desk) → quiet d.fed ≡ true → is_whole (length bytes) d.fed.at ≡ true
     → feed_all bytes d ≡ feed_all bytes (anew d d.fed.at)
-unfolding fed_one is_quiet
+unfolding fed_one is_nothing
 feed_anew bytes d q w = cc (feed_more bytes d w q, feed_more bytes (anew d d.fed.at) w refl)
 
 module _ (bytes : List ℕ) (k : ℕ) where

@@ -7,7 +7,6 @@ use Prim.Native.Nat.{ℕ, zero, suc, ◌+◌, ◌<◌}
 use native.Mathlib.Numerals.{add-one}
 use native.Mathlib.Omega.{arith}
 use lib.ListN.{length}
-use Rattle.state.specs.Deciding.{answer_number}
 use Rattle.state.specs.declared.State.{State}
 use Rattle.state.specs.declared.deciding.Stepped.{Stepped}
 use Rattle.reader.specs.Buffers.{Buffers}
@@ -18,13 +17,12 @@ use Rattle.feed.specs.declared.feeding.Fed.{Fed}
 use Rattle.feed.proofs.Cuts.{whole_left, none_left}
 
 -- a record that was stepped, and what is told of it
-pub one_is : {s : State} {b b' : Buffers} {r : List ℕ} {x : Stepped} {n : ℕ} (bytes : List ℕ) (at : ℕ)
-    → r ≡ record_at bytes at → StepIs s b r x b' → n ≡ answer_number x.answer
-    → OneIs s b bytes at (record { from = at; at = at + length r; rule = n; state = x.state; closed = x.closed }) b'
+pub one_is : {s : State} {b b' : Buffers} {r : List ℕ} {x : Stepped} {y : Fed} (bytes : List ℕ) (at : ℕ)
+    → r ≡ record_at bytes at → StepIs s b r x b' → y ≡ told at (at + length r) x → OneIs s b bytes at y b'
 unfolding fed_one
 one_is bytes at e is h =
     let i = rw e at is in
-    record { result = rw (e, h) (ap (told at (length (record_at bytes at))) i.result); left = i.left }
+    record { result = h ∙ rw e (ap (told at (at + length (record_at bytes at))) i.result); left = i.left }
 
 -- nothing more is taken after one that has something to tell
 pub loud : (n : ℕ) (bytes : List ℕ) (d : Desk) → quiet d.fed ≡ false → feed_up_to n bytes d ≡ d

@@ -1,10 +1,12 @@
 -- Whole records fed to the reader, one after another, until one has something to tell.
 -- Assumes nothing.
-use Rattle.std.specs.Prelude.{ℕ, zero, suc, ◌+◌, ◌-◌, ◌/◌, Bool, cond, not, ◌&&◌, List, [], ◌∷◌, ◌≡◌, eqb, length}
+use Rattle.std.specs.Prelude.{ℕ, zero, suc, ◌+◌, ◌-◌, ◌/◌, Bool, cond, ◌&&◌, List, [], ◌∷◌, ◌≡◌, length, None, is_none}
+use Rattle.std.specs.Result.{result_err}
 use Rattle.record.specs.Layout.{size}
 use Rattle.state.specs.Closed.{nothing_closed}
-use Rattle.state.specs.Deciding.{decided_of, answer_number}
+use Rattle.state.specs.Deciding.{decided_of}
 use Rattle.state.specs.declared.State.{State}
+use Rattle.state.specs.declared.closed.Closed.{Closed}
 use Rattle.state.specs.declared.deciding.Stepped.{Stepped}
 use Rattle.reader.specs.Buffers.{Buffers}
 use Rattle.reader.specs.Steps.{input, stepped}
@@ -13,20 +15,19 @@ use Rattle.feed.specs.Cutting.{record_at}
 
 -- before the first: nothing to tell
 abbrev pub nothing_fed : State → ℕ → Fed
-nothing_fed s at = record { from = at; at = at; rule = 0; state = s; closed = nothing_closed }
+nothing_fed s at = record { from = at; at = at; refusal = None; state = s; closed = nothing_closed }
 
--- after a record of n bytes that began at `at`
+-- after a record that began at `from`, with the next one at `at`
 abbrev pub told : ℕ → ℕ → Stepped → Fed
-told at n x = record { from = at; at = at + n; rule = answer_number x.answer; state = x.state; closed = x.closed }
+told from at x = record { from = from; at = at; refusal = result_err x.answer; state = x.state; closed = x.closed }
+
+-- closed nothing
+unfoldable pub is_nothing : Closed → Bool
+is_nothing c = is_none c.major && (is_none c.accumulation && (is_none c.first_snapshot && is_none c.second_snapshot))
 
 -- accepted, and closed nothing
-unfoldable pub is_quiet : ℕ → Bool → Bool → Bool → Bool → Bool
-is_quiet rule major accumulation first second = eqb rule 0 && (not major && (not accumulation && (not first && not second)))
-
 abbrev pub quiet : Fed → Bool
-quiet f =
-    is_quiet f.rule f.closed.major.closed f.closed.accumulation.closed f.closed.first_snapshot.closed
-    f.closed.second_snapshot.closed
+quiet f = is_none f.refusal && is_nothing f.closed
 
 -- what was told last, and the lent buffers
 pub record Desk : Type 0 where
@@ -40,7 +41,7 @@ upcoming bytes d = record_at bytes d.fed.at
 -- the reader's step on it
 unfoldable pub fed_one : List ℕ → Desk → Desk
 fed_one bytes d = record {
-  fed = told d.fed.at (length (upcoming bytes d)) (decided_of (input d.fed.state d.lent (upcoming bytes d))).stepped;
+  fed = told d.fed.at (d.fed.at + length (upcoming bytes d)) (decided_of (input d.fed.state d.lent (upcoming bytes d))).stepped;
   lent = stepped d.fed.state d.lent (upcoming bytes d);
 }
 

@@ -5,8 +5,8 @@ ghost use Rattle.feed.specs.Cutting.{CutIs, RestIs, is_whole};
 use buffers::has_room;
 use record::Record;
 
-// The record that begins at place `at`: the caller's own bytes, 472 of them or what is left.
-pub fn cut<'a>(bytes: &'a [u8], at: usize) -> &'a [u8]
+// The record that begins at place `at`: the caller's own bytes, 472 of them or what is left. A place beside the bytes: it answers for every one.
+pub fn cut(bytes: &[u8], at: usize) -> &[u8]
     ensures { CutIs bytes.now bytes.entry.ref_ptr at result.now result.ref_ptr }
 {
     if bytes.len() <= at {
@@ -28,20 +28,13 @@ pub fn is_whole(size: usize, at: usize) -> bool
 
 // The bytes from place `from` to before place `to` come to the front; answers how many they are. The others stay, and all stay
 // where there are no such places: then none came.
+#[tactic(auto, using(crate::proofs::Rests::all_came))]
 pub fn keep_rest(bytes: &mut [u8], from: usize, to: usize) -> usize
     ensures { RestIs bytes.old from to bytes.new result }
 {
-    if bytes.len() < to {
+    if bytes.len() < to || to < from {
         return 0;
     }
-    if to < from {
-        return 0;
-    }
-    let rest = to - from;
-    let mut i = 0;
-    while i < rest {
-        bytes[i] = bytes[from + i];
-        i += 1;
-    }
-    rest
+    bytes.copy_within(from..to, 0);
+    to - from
 }

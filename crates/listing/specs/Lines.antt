@@ -1,13 +1,12 @@
 -- The lines of the listing (01, "The listing, whole").
 -- Assumes nothing.
-use Rattle.std.specs.Prelude.{ℕ, ◌+◌, ◌*◌, ◌^◌, cond, ◌&&◌, List, [], ◌∷◌, ◌++◌, ltb}
+use Rattle.std.specs.Prelude.{ℕ, ◌+◌, ◌*◌, ◌^◌, cond, List, [], ◌∷◌, ◌++◌, ltb, Option, Some, None}
 use Rattle.std.specs.Int.Count.{ones}
 use Rattle.mag.specs.Samples.{samples_size}
 use Rattle.carriage.specs.Carriage.{science_size}
 use Rattle.bursts.specs.Bursts.{burst_size}
 use Rattle.accumulation.specs.declared.AccumulationReport.{AccumulationReport}
 use Rattle.major.specs.declared.Major.{Major}
-use Rattle.major.specs.declared.MajorReport.{MajorReport}
 use Rattle.snapshot.specs.declared.SnapshotReport.{SnapshotReport}
 use Rattle.state.specs.declared.closed.Closed.{Closed}
 use Rattle.listing.specs.Text.{ascii, space}
@@ -47,8 +46,9 @@ frame_line m = line_of (ascii "major") (16 * m.number) (slots_held m) (samples_h
 
 -- nothing where none closed; nor where its first would leave 64 bits, which no state that keeps 01's list leads to
 -- (`always_listed` in proofs/Closings.antt)
-unfoldable pub major_line : MajorReport → List ℕ
-major_line r = cond (r.closed && ltb (16 * r.frame.number) (2 ^ 64)) (frame_line r.frame) []
+unfoldable pub major_line : Option Major → List ℕ
+major_line None = []
+major_line (Some m) = cond (ltb (16 * m.number) (2 ^ 64)) (frame_line m) []
 
 -- "for an accumulation, the count of its first frame"; the frames it holds, and their cells
 abbrev pub frames_held : AccumulationReport → ℕ
@@ -57,8 +57,9 @@ frames_held r = ones r.held
 abbrev pub cells_held : AccumulationReport → ℕ
 cells_held r = science_size * frames_held r
 
-unfoldable pub accum_line : AccumulationReport → List ℕ
-accum_line r = cond r.closed (line_of (ascii "accum") r.first (frames_held r) (cells_held r)) []
+unfoldable pub accum_line : Option AccumulationReport → List ℕ
+accum_line None = []
+accum_line (Some r) = line_of (ascii "accum") r.first (frames_held r) (cells_held r)
 
 -- "the listing says snap, 82 cells a packet" (02, request 2); the rest "as for accumulations"
 abbrev pub packets_held : SnapshotReport → ℕ
@@ -67,8 +68,9 @@ packets_held r = ones r.held
 abbrev pub snap_cells_held : SnapshotReport → ℕ
 snap_cells_held r = burst_size * packets_held r
 
-unfoldable pub snap_line : SnapshotReport → List ℕ
-snap_line r = cond r.closed (line_of (ascii "snap") r.first (packets_held r) (snap_cells_held r)) []
+unfoldable pub snap_line : Option SnapshotReport → List ℕ
+snap_line None = []
+snap_line (Some r) = line_of (ascii "snap") r.first (packets_held r) (snap_cells_held r)
 
 -- "One record may close both; the major frame is reported first." "A frame can close two" snapshots, "reported last", in the order in
 -- which they close

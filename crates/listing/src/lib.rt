@@ -1,6 +1,7 @@
 // The lines of the listing (01, "The listing, whole"), and what is said of a refused record: bytes put into a lent buffer from a
 // place on. Each function answers where they end. It writes only where the longest line of its kind would still fit; else the
-// buffer stays as found, and the answer is the place where it was to begin.
+// buffer stays as found, and the answer is the place where it was to begin. Buffer and place are two parameters, and the answer is a place and no
+// option: `Written` answers for every place and every size.
 #![tactic(auto)]
 
 mod decimal;

@@ -4,158 +4,95 @@
 #![tactic(auto)]
 
 ghost use Rattle.std.specs.Prelude.{◌≤◌};
+ghost use Rattle.programs.specs.Status.{number};
 
-mod run;
-mod said;
+mod intake;
+mod page;
 
-use programs::within;
-use run::Run;
-use state::State;
+use bursts::SNAPSHOT;
+use cells::CELLS_SIZE;
+use intake::Intake;
+use major::MAJOR_SAMPLES;
+use page::Page;
+use programs::{Failed, Options, Program, Source, Status};
+use reader::Lent;
 
-// its name, for what it says
-pub(crate) const NAME: [u8; 5] = *b"lpmag";
+const HELP: &str = "lpmag [-v] [FILE]...
 
-// the letter of its option, and its place
-pub(crate) const LETTERS: [u8; 1] = *b"v";
+Reads records of 472 bytes of Lunar Prospector's merged file, each a 2-second
+frame, and lists what the MAG/ER packets in them make up. The input is the files
+named, their bytes laid end to end, or standard input.
 
-const VERBOSE: usize = 0;
+The listing, on standard output:
+  kind first frames cells   the first line
+  major F N C               a major frame: 16 times its number, the slots held,
+                            54 magnetometer numbers for each slot that has them
+  accum F N C               an electron accumulation: the count of its first
+                            frame, the frames held, 83 cells for each
+  snap F N C                a burst snapshot: the count of the frame with its
+                            first packet, the packets held, 82 cells for each
+  refused N                 the last line: how many records were refused
+Counts go on where those of the records restart at 0: 16777216 more each time.
 
-// 256 records: large reads, and little enough to stay in a processor's second cache.
-const INPUT: usize = 256 * record::Record::SIZE;
+  -v   also says of each refused record, on standard error, which it is, where
+       it begins, the number of the rule that it breaks and what the rule says
+";
 
-const OUTPUT: usize = 32768;
-
-// The run and the reader's state, when all whole records are taken.
-#[derive(Drop)]
-struct Read {
-    run: Run,
-    state: State,
-}
-
-// Takes all whole records of the input, or ends when nothing can be written any more. A proved loop has to end, and nothing says
-// that a file does: it counts its turns, up to a number that no run reaches.
-fn read_all(
-    rt: &HostRuntime,
-    run: Run,
-    state: State,
-    bytes: &mut [u8],
-    page: &mut [u8],
-    open_cells: &mut [u8],
-    finished_cells: &mut [u8],
-    open_samples: &mut [i16],
-    finished_samples: &mut [i16],
-    open_snapshot: &mut [u8],
-    first_snapshot: &mut [u8],
-    second_snapshot: &mut [u8],
-) -> Read {
-    let mut run = run;
-    let mut state = state;
+// The listing of all that can be read. It ends at once when nothing can be written any more. A proved loop has to end, and nothing says
+// that a file does: it counts its turns, up to a number that no run reaches. Flags, as the program's options are.
+fn list(program: Program, from_files: bool, verbose: bool) -> Result<(), Failed> {
+    let mut intake = Intake::new(Source::new(program, from_files));
+    let mut lent = Lent {
+        open_cells: &mut [0; CELLS_SIZE],
+        finished_cells: &mut [0; CELLS_SIZE],
+        open_samples: &mut [0; MAJOR_SAMPLES],
+        finished_samples: &mut [0; MAJOR_SAMPLES],
+        open_snapshot: &mut [0; SNAPSHOT],
+        first_snapshot: &mut [0; SNAPSHOT],
+        second_snapshot: &mut [0; SNAPSHOT],
+    };
+    let mut state = state::fresh();
+    let mut page = Page::new(program, verbose);
     for _ in 0..u64::MAX {
-        if !run.goes_on {
+        if !intake.goes_on() {
             break;
         }
-        run = run::refill(rt, run, bytes);
-        let have = within(run.have, bytes);
-        let fed = feed::feed(
-            state,
-            open_cells,
-            finished_cells,
-            open_samples,
-            finished_samples,
-            open_snapshot,
-            first_snapshot,
-            second_snapshot,
-            &bytes[..have],
-            run.at,
-        );
-        let next = fed.state;
-        state = next;
-        run = run::tell(rt, run, fed, page);
+        intake.refill();
+        let fed = feed::feed(state, &mut lent, intake.bytes(), intake.at);
+        state = fed.state;
+        intake.at = fed.at;
+        page.tell(fed, intake.offset(fed.from))?;
     }
-    Read {
-        run: run,
-        state: state,
+    // "A short tail of the input is one record refused with 2." No byte is no record. Rule 1 comes before, and holds: state and buffers
+    // are the program's own.
+    let rest = feed::cut(intake.bytes(), intake.at);
+    if let Err(refusal) = record::check(rest)
+        && !rest.is_empty()
+    {
+        page.refuse(intake.offset(intake.at), refusal);
     }
+    page.end(reader::finish(state, &mut lent).closed)?;
+    intake.all_read()
 }
 
-// What finish closes, and the last line. Answers whether all could be read and written.
-fn end_listing(
-    rt: &HostRuntime,
-    run: Run,
-    state: State,
-    page: &mut [u8],
-    open_cells: &mut [u8],
-    finished_cells: &mut [u8],
-    open_samples: &mut [i16],
-    finished_samples: &mut [i16],
-    open_snapshot: &mut [u8],
-    first_snapshot: &mut [u8],
-    second_snapshot: &mut [u8],
-) -> bool {
-    let finished = reader::finish(
-        state,
-        open_cells,
-        finished_cells,
-        open_samples,
-        finished_samples,
-        open_snapshot,
-        first_snapshot,
-        second_snapshot,
-    );
-    run::end(rt, run, finished, page)
+fn run(program: Program) -> Result<(), Status> {
+    let Options {
+        given: [verbose],
+        files,
+        ..
+    } = program.begin(b"v", HELP)?;
+    list(program, files, verbose)?;
+    Ok(())
 }
 
-// The listing of all that can be read; answers whether that was everything.
-fn list(rt: &HostRuntime, from_files: bool, verbose: bool) -> bool {
-    let mut bytes = [0u8; INPUT];
-    let mut page = [0u8; OUTPUT];
-    let mut open_cells = [0u8; cells::CELLS_SIZE];
-    let mut finished_cells = [0u8; cells::CELLS_SIZE];
-    let mut open_samples = [0i16; major::MAJOR_SAMPLES];
-    let mut finished_samples = [0i16; major::MAJOR_SAMPLES];
-    let mut open_snapshot = [0u8; bursts::SNAPSHOT];
-    let mut first_snapshot = [0u8; bursts::SNAPSHOT];
-    let mut second_snapshot = [0u8; bursts::SNAPSHOT];
-    let begun = run::begin(from_files, verbose, &mut page);
-    let read = read_all(
-        rt,
-        begun,
-        state::fresh(),
-        &mut bytes,
-        &mut page,
-        &mut open_cells,
-        &mut finished_cells,
-        &mut open_samples,
-        &mut finished_samples,
-        &mut open_snapshot,
-        &mut first_snapshot,
-        &mut second_snapshot,
-    );
-    let run = run::tell_rest(rt, read.run, &bytes);
-    end_listing(
-        rt,
-        run,
-        read.state,
-        &mut page,
-        &mut open_cells,
-        &mut finished_cells,
-        &mut open_samples,
-        &mut finished_samples,
-        &mut open_snapshot,
-        &mut first_snapshot,
-        &mut second_snapshot,
-    )
-}
-
-// Runs the program and answers its status: 0 good, 1 not all could be read or written, 2 an unknown option.
-pub fn perform(rt: &HostRuntime) -> u8
-    ensures { result ≤ 2 }
+// Runs the program and answers its status: good, not all could be read or written, or an unknown option. As the other program's but for name
+// and `run`: four lines.
+#[tactic(auto, unfolding(programs::specs::Status::number))]
+pub fn perform(rt: &HostRuntime) -> Status
+    ensures { number result ≤ 2 }
 {
-    let start = said::begin(rt);
-    if !start.goes_on {
-        return start.status;
+    match run(Program { rt, name: "lpmag" }) {
+        Ok(()) => Status::Done,
+        Err(status) => status,
     }
-    let options = start.options;
-    let given = options.given;
-    programs::status(list(rt, options.files, given[VERBOSE]))
 }

@@ -6,6 +6,7 @@ ghost use Rattle.std.specs.Process.{exit_status};
 
 use std::process::ExitCode;
 
+// As the other program's: one line, which names its body.
 // What the process ends with: 0 good, 1 not all could be read or written, 2 an unknown option.
 pub fn lpmag_main(rt: &HostRuntime) -> ExitCode
     ensures { exit_status result ≤ 2 }

@@ -4,8 +4,8 @@
 mod nominal;
 mod unpacking;
 
-pub use nominal::{Field, field_of, is_sample};
-pub use unpacking::{Unpacked, lay, range_of};
+pub use nominal::{field_of, is_sample};
+pub use unpacking::{lay, range_of};
 
 // The numbers in a frame's MAG bytes: 18 vectors of x, y, z.
 pub const FRAME_SAMPLES: usize = 54;

@@ -1,25 +1,25 @@
--- The open samples are copied to the finished ones just when a major frame is reported as closed; what isn't closed is all 0.
+-- The open samples are copied to the finished ones just when a major frame is reported as closed.
 -- Assumes nothing.
 use mathlib.Core.Path.{◌≡◌, refl}
 use mathlib.Core.Bool.{Bool, true, false, not, cond}
 use Prim.Native.Nat.{ℕ}
+use Rattle.std.specs.Prelude.{Option, Some, None, is_some}
 use Rattle.buffers.specs.declared.work.Work.{Work}
 use Rattle.buffers.proofs.Closing.{Closes, closes, closes_none}
-use Rattle.major.specs.Major.{slot_of, major_open, major_unreported, major_reported, continues, stays, major_renews, step_major}
+use Rattle.major.specs.Major.{slot_of, major_open, major_reported, continues, stays, major_renews, step_major}
 use Rattle.major.specs.declared.Major.{Major}
-use Rattle.major.specs.declared.MajorReport.{MajorReport}
 use Rattle.major.specs.declared.MajorStep.{MajorStep}
 
 -- copied when closed, and then cleared
-abbrev pub MajorCloses : Work → MajorReport → Type 0
-MajorCloses w r = Closes (λ x. x.closed) major_unreported w r
+abbrev pub MajorCloses : Work → Option Major → Type 0
+MajorCloses w r = Closes is_some None w r
 
 pub major_report : (m : Major) (b c : Bool) → (major_open m ≡ true → b ≡ true)
     → MajorCloses (record { copies = major_open m; clears = b; lays = c }) (major_reported m)
-major_report m b c h = closes (λ x. x.closed) major_unreported refl b c (record { closed = true; frame = m }) refl (major_open m) h
+major_report m b c h = closes is_some None refl b c (Some m) refl (major_open m) h
 
-pub no_major_lem : (b c : Bool) → MajorCloses (record { copies = false; clears = b; lays = c }) major_unreported
-no_major_lem b c = closes_none (λ x. x.closed) major_unreported refl b c
+pub no_major_lem : (b c : Bool) → MajorCloses (record { copies = false; clears = b; lays = c }) None
+no_major_lem b c = closes_none is_some None refl b c
 
 module _ (m : Major) (d : ℕ) (mag : Bool) (k w : ℕ) where
   abbrev step_by : Bool → MajorStep

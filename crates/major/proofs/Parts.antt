@@ -2,14 +2,15 @@
 -- Assumes nothing.
 use mathlib.Core.Path.{◌≡◌, sym, subst, ◌∙◌}
 use mathlib.Core.Bool.{Bool, true, false, true≢false}
+use Rattle.std.specs.Prelude.{Option, is_some, unwrap_or}
+use Rattle.std.specs.Bool.{then_some}
 use Prim.Native.Nat.{ℕ, ◌+◌, ◌-◌, ◌*◌, ◌/◌, ◌%◌, ◌^◌, ◌<◌, ◌≤◌}
 use native.Mathlib.Nat.{div-eq_of_lt, div-lt_iff_lt-mul}
 use native.Mathlib.Omega.{arith}
 use lib.Dec.{eqb}
-use lib.ListN.{set}
 use lib.Pow.{pow_mono, pow_pos}
 use borrow.Author.Tests.{eqb-true}
-use Rattle.prelude.specs.Marks.{bit_set, marked}
+use Rattle.prelude.specs.Marks.{bit_set}
 use Rattle.prelude.proofs.Conds.{two}
 use Rattle.prelude.proofs.Marks.{weight, bits_above, below}
 use Rattle.major.specs.Major.{slot_of, continues, into, stays, major_renews, step_major}
@@ -31,28 +32,6 @@ low_marks n s l h f =
 pub mag_fits : (m : Major) (d : ℕ) → m.mag_slots < 2 ^ 16 → ((i : ℕ) → slot_of d ≤ i → i < 16 → bit_set m.mag_slots i ≡ false)
     → m.mag_slots + 1 * 2 ^ slot_of d % 2 ^ 16 < 2 ^ 16
 mag_fits m d h f = mark_fits m.mag_slots d (low_marks m.mag_slots (slot_of d) (omega arith) h f)
-
-pub is_into : (m : Major) (d : ℕ) (mag : Bool) (range word : ℕ) → mag ≡ true
-    → ◌≡◌ {A = Major} (record {
-      number = d / 16;
-      slots = m.slots + 1 * 2 ^ slot_of d % 2 ^ 16;
-      mag_slots = m.mag_slots + 1 * 2 ^ slot_of d % 2 ^ 16;
-      ranges = set m.ranges (slot_of d) range;
-      words = set m.words (slot_of d) word;
-    }) (into m d mag range word)
-unfolding into marked
-is_into m d mag range word e = rw (weight 16 (slot_of d) (omega arith), e)
-
-pub is_beside : (m : Major) (d : ℕ) (mag : Bool) (range word : ℕ) → mag ≡ false
-    → ◌≡◌ {A = Major} (record {
-      number = d / 16;
-      slots = m.slots + 1 * 2 ^ slot_of d % 2 ^ 16;
-      mag_slots = m.mag_slots;
-      ranges = m.ranges;
-      words = set m.words (slot_of d) word;
-    }) (into m d mag range word)
-unfolding into marked
-is_beside m d mag range word e = rw (weight 16 (slot_of d) (omega arith), e)
 
 -- room, by the code's test and mark by mark
 module _ (m : Major) (d : ℕ) where
@@ -85,3 +64,11 @@ module _ (m : Major) (d : ℕ) (mag : Bool) (range word : ℕ) (x : MajorStep) w
   pub is_stayed : continues m d ≡ true → slot_free m d ≡ true → x ≡ stays m d mag range word → SteppedIs m d mag range word x
   unfolding stepped_at step_major
   is_stayed e r q = record { is = q ∙ rw (e, r); within = λ f. q ∙ rw e }
+
+-- a record without MAG is laid whatever range it is said to have
+module _ (m : Major) (d word : ℕ) (x : MajorStep) where
+  pub any_range : (mag : Bool) (range : ℕ) → let o : Option ℕ = then_some mag range in SteppedIs m d (is_some o) (unwrap_or o 0) word x
+      → SteppedIs m d mag range word x
+  unfolding stepped_at step_major into
+  any_range true range s = s
+  any_range false range s = record { is = s.is; within = s.within }

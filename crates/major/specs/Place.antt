@@ -1,10 +1,10 @@
 -- What a step of this room answers where what it is handed is out of place: so it asks nothing of its caller. In every state that
 -- passes the list, and for every later record, it is in place (`is_free` in proofs/Facts.antt).
 -- Assumes nothing.
-use Rattle.std.specs.Prelude.{ℕ, ◌/◌, ◌^◌, ◌<◌, ◌≤◌, Bool, true, false, cond, ◌&&◌, ◌≡◌, eqb}
+use Rattle.std.specs.Prelude.{ℕ, ◌/◌, ◌^◌, ◌<◌, ◌≤◌, Bool, true, false, cond, ◌&&◌, ◌≡◌, eqb, None}
 use Rattle.prelude.specs.Marks.{bit_set}
 use Rattle.buffers.specs.Working.{no_work}
-use Rattle.major.specs.Major.{slot_of, slots, major_unreported, slot_work, continues, stays, major_renews, step_major}
+use Rattle.major.specs.Major.{slot_of, slots, slot_work, continues, stays, major_renews, step_major}
 use Rattle.major.specs.declared.Major.{Major}
 use Rattle.major.specs.declared.MajorStep.{MajorStep}
 
@@ -14,7 +14,7 @@ slot_free m d = eqb (m.slots / 2 ^ slot_of d) 0 && eqb (m.mag_slots / 2 ^ slot_o
 
 -- nothing is done
 abbrev pub leaves : Major → MajorStep
-leaves m = record { next = m; report = major_unreported; work = slot_work no_work 0 }
+leaves m = record { next = m; report = None; work = slot_work no_work 0 }
 
 unfoldable pub stepped_at : Major → ℕ → Bool → ℕ → ℕ → MajorStep
 stepped_at m d mag range word =

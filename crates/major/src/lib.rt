@@ -7,16 +7,17 @@ mod steps;
 
 use buffers::Work;
 pub use soundness::is_sound;
-pub use steps::{no_major, no_slot_work, report, step, unreported};
+pub use steps::{no_major, no_slot_work, report, step};
 
 // The slots of a major frame, and the samples of all of them.
 pub const SLOTS: usize = 16;
 
 pub const MAJOR_SAMPLES: usize = SLOTS * mag::FRAME_SAMPLES;
 
+// No option where none is open: any state may be handed in (demand 1), and one with a number left over is refused with 1 (`no_slot`).
 // A major frame: its number, subcom words and ranges by slot, the slots held and those held with MAG (bit s for slot s). It is open when it holds a
 // slot. In this order the words and ranges begin at multiples of 16 bytes of the state, and are copied and tested in whole ones.
-#[derive(Clone, Copy)]
+#[derive(Clone, Copy, Debug, PartialEq, Eq)]
 pub struct Major {
     pub number: u64,
     pub words: [u16; SLOTS],
@@ -25,24 +26,18 @@ pub struct Major {
     pub mag_slots: u16,
 }
 
-// Whether a major frame was closed, and which; all 0 where none was.
-#[derive(Clone, Copy)]
-pub struct MajorReport {
-    pub closed: bool,
-    pub frame: Major,
-}
-
-// What is done to the samples, and in which slot a record's own are laid.
+// What is done to the samples, and in which slot a record's own are laid. The slot stands beside the flag `lays`, 0 where nothing is laid: so
+// `slot_work` and `MajorStep` in the statements have it.
 #[derive(Clone, Copy)]
 pub struct SlotWork {
     pub work: Work,
     pub slot: usize,
 }
 
-// A record's part in it: the major frame after it, what closed, and what is done to the samples.
+// A record's part in it: the major frame after it, the one that closed, and what is done to the samples.
 #[derive(Clone, Copy)]
 pub struct MajorStep {
     pub next: Major,
-    pub report: MajorReport,
+    pub report: Option<Major>,
     pub work: SlotWork,
 }

@@ -2,14 +2,12 @@
 // that they end with. Standard output is data, standard error is talk.
 #![tactic(auto)]
 
-mod beginning;
 mod input;
 mod options;
-mod output;
-mod said;
+mod program;
+mod status;
 
-pub use beginning::{Start, begin, status};
-pub use input::{Input, Source, fill, first, read};
+pub use input::Source;
 pub use options::Options;
-pub use output::{unwritten, write_page};
-pub use said::within;
+pub use program::Program;
+pub use status::{Failed, Status};

@@ -6,19 +6,14 @@ use mathlib.Core.List.{List}
 use Prim.Native.Nat.{ℕ, ◌+◌, ◌≤◌}
 use native.Mathlib.Omega.{arith}
 use lib.ListN.{length, length-replicate}
-use borrow.Author.Tests.{eqb-true, eq-eqb}
+use borrow.Author.Tests.{eqb-true}
 use Rattle.prelude.proofs.Conds.{two}
-use Rattle.buffers.specs.Copying.{copied}
 use Rattle.buffers.proofs.Patches.{length_patch}
 use Rattle.bursts.specs.Bursts.{snapshot_size}
 use Rattle.cells.specs.Laying.{cells_size}
 use Rattle.major.specs.Major.{major_samples}
 use Rattle.snapshot.specs.declared.PacketWork.{PacketWork}
-use Rattle.reader.specs.Buffers.{Buffers, sized_by, sized, copied_by, cleared_by, packet_laid_by, packet_after}
-
--- a copy between two of one size
-pub is_copied {ℓ} : {A : Type ℓ} (t : Bool) (s d e : List A) → t ≡ true → length s ≡ length d → e ≡ copied s d → e ≡ copied_by t s d
-is_copied t s d e h l q = rw h (q ∙ rw eq-eqb)
+use Rattle.reader.specs.Buffers.{Buffers, sized_by, sized, cleared_by, packet_laid_by, packet_after}
 
 pub length_cleared {ℓ} : {A : Type ℓ} (t : Bool) (z : A) (d : List A) → length (cleared_by t z d) ≡ length d
 length_cleared true z d = length-replicate (length d) z

@@ -1,4 +1,5 @@
 pub mod Lengths
+pub mod Same
 pub mod Laid
 pub mod Outcomes
 pub mod Laws

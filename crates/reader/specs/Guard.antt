@@ -12,7 +12,8 @@ use Rattle.carriage.specs.Carriage.{types, cells, row_of, runs_of, some_has}
 use Rattle.accumulation.specs.Accumulation.{joins}
 use Rattle.accumulation.specs.declared.Accumulation.{Accumulation}
 use Rattle.state.specs.Soundness.{sound}
-use Rattle.state.specs.Deciding.{Input, fields_of, count_at, reader_rules, decided_as, answer_number}
+use Rattle.state.specs.Deciding.{Input, fields_of, count_at, reader_rules, decided_as}
+use Rattle.record.specs.Rules.{refused_number}
 use Rattle.state.specs.declared.State.{State}
 use Rattle.state.specs.declared.deciding.Decided.{Decided}
 use Rattle.state.specs.declared.deciding.Stepped.{Stepped}
@@ -55,7 +56,7 @@ guarded_of i = decided_as i (guarded_number i)
 -- a step with the guard, as `StepIs` is one without it
 pub record GuardedStepIs (s : State) (b : Buffers) (r : List ℕ) (x : Stepped) (b' : Buffers) : Type 0 where
   pub result : x ≡ (guarded_of (input s b r)).stepped
-  pub number : answer_number x.answer ≡ guarded_number (input s b r)
+  pub number : refused_number x.answer ≡ guarded_number (input s b r)
   pub left : b' ≡ worked (guarded_of (input s b r)).works (packet_bytes r) b
 
 -- The laws, proved in proofs/Guard.antt.
@@ -91,4 +92,4 @@ SameStep = (s : State) (b : Buffers) (r : List ℕ) (x : Stepped) (b' : Buffers)
 
 -- no step answers 13
 abbrev pub No13 : Type 0
-No13 = (s : State) (b : Buffers) (r : List ℕ) (x : Stepped) (b' : Buffers) → StepIs s b r x b' → answer_number x.answer ≡ 13 → ⊥
+No13 = (s : State) (b : Buffers) (r : List ℕ) (x : Stepped) (b' : Buffers) → StepIs s b r x b' → refused_number x.answer ≡ 13 → ⊥

@@ -1,4 +1,5 @@
 pub mod Buffers
+pub mod Lent
 pub mod Steps
 pub mod Guard
 pub mod Inner

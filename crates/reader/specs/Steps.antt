@@ -2,8 +2,9 @@
 -- Assumes nothing.
 use Rattle.std.specs.Prelude.{ℕ, List, [], ◌≡◌}
 use Rattle.record.specs.Layout.{packet_bytes}
-use Rattle.state.specs.Deciding.{Input, number_of, decided_of, answer_number}
-use Rattle.state.specs.Ending.{ended_of, end_number, ending_number}
+use Rattle.record.specs.Rules.{refused_number}
+use Rattle.state.specs.Deciding.{Input, number_of, decided_of}
+use Rattle.state.specs.Ending.{ended_of, end_number}
 use Rattle.state.specs.declared.State.{State}
 use Rattle.state.specs.declared.deciding.Stepped.{Stepped}
 use Rattle.state.specs.declared.ending.Finished.{Finished}
@@ -20,7 +21,7 @@ stepped s b r = worked (decided_of (input s b r)).works (packet_bytes r) b
 -- the answer with the next state and what closed, and the content of the buffers
 pub record StepIs (s : State) (b : Buffers) (r : List ℕ) (x : Stepped) (b' : Buffers) : Type 0 where
   pub result : x ≡ (decided_of (input s b r)).stepped
-  pub number : answer_number x.answer ≡ number_of (input s b r)
+  pub number : refused_number x.answer ≡ number_of (input s b r)
   pub left : b' ≡ stepped s b r
 
 -- the buffers after finish, which has no packet
@@ -29,5 +30,5 @@ ended s b = worked (ended_of s (sized b)).works [] b
 
 pub record FinishIs (s : State) (b : Buffers) (x : Finished) (b' : Buffers) : Type 0 where
   pub result : x ≡ (ended_of s (sized b)).finished
-  pub number : ending_number x.ending ≡ end_number s (sized b)
+  pub number : refused_number x.ending ≡ end_number s (sized b)
   pub left : b' ≡ ended s b

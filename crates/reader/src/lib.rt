@@ -3,9 +3,11 @@
 #![tactic(auto)]
 
 mod cells_part;
+mod lent;
 mod moving;
 mod samples_part;
 mod snapshot_part;
 mod steps;
 
-pub use steps::{finish, right_sizes, step};
+pub use lent::Lent;
+pub use steps::{finish, step};

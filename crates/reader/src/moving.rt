@@ -1,32 +1,18 @@
-// A buffer of bytes closed: copied to a finished one, and cleared, where that is to be done.
-ghost use Rattle.std.specs.Prelude.{true, ◌≡◌, length};
-ghost use Rattle.reader.specs.Buffers.{copied_by, cleared_by};
+// A buffer closed: copied to a finished one, and cleared, where that is to be done.
 ghost use Rattle.reader.specs.Inner.Asked.{Alike, ClosedBy};
 
 use buffers::Work;
 
-fn copy_where(copies: bool, from: &[u8], finished: &mut [u8])
-    requires { copies ≡ true → length from.now ≡ length finished.old }
-    ensures { finished.new ≡ copied_by copies from.now finished.old }
-{
-    if copies {
-        buffers::copy(from, finished);
-    }
-}
-
-fn clear_where(clears: bool, bytes: &mut [u8])
-    ensures { bytes.new ≡ cleared_by clears 0 bytes.old }
-{
-    if clears {
-        buffers::clear(bytes);
-    }
-}
-
-// Copied, cleared: in this order.
-pub(crate) fn close(work: Work, opened: &mut [u8], finished: &mut [u8])
+// Copied, cleared: in this order. Open and finished buffer are two parameters: both are fields of `Lent`, lent on for this call; a struct of the
+// two would live no longer.
+pub(crate) fn close<T: Copy>(work: Work, zero: T, opened: &mut [T], finished: &mut [T])
     requires { Alike work opened.old finished.old }
-    ensures { ClosedBy work 0 opened.old finished.old opened.new finished.new }
+    ensures { ClosedBy work zero opened.old finished.old opened.new finished.new }
 {
-    copy_where(work.copies, opened, finished);
-    clear_where(work.clears, opened);
+    if work.copies {
+        buffers::copy(opened, finished);
+    }
+    if work.clears {
+        buffers::clear(opened, zero);
+    }
 }

@@ -8,7 +8,8 @@ use crate::moving::close;
 use buffers::Work;
 use snapshot::PacketWork;
 
-// The bytes of the first burst packet, or of the second, where its type has them.
+// The bytes of the first burst packet, or of the second, where its type has them. `lays` is a flag, as in `Work` and `packet_laid_by`
+// (reader/Buffers).
 fn lay_packet(lays: bool, at: usize, second: bool, packet: &[u8], bytes: &mut [u8])
     requires { lays ≡ true → BurstReady at second packet.now bytes.old }
     ensures { bytes.new ≡ packet_laid_by lays (burst_bytes packet.now second) at bytes.old }
@@ -18,7 +19,7 @@ fn lay_packet(lays: bool, at: usize, second: bool, packet: &[u8], bytes: &mut [u
     }
 }
 
-// Closed, laid into: in this order.
+// Closed, laid into: in this order. `second` is a flag, as in `burst_bytes` (record/Parts).
 fn work_packet(
     work: PacketWork,
     second: bool,
@@ -31,7 +32,7 @@ fn work_packet(
         opened.new finished.new }
 {
     let todo = work.work;
-    close(todo, opened, finished);
+    close(todo, 0, opened, finished);
     lay_packet(todo.lays, work.at, second, packet, opened);
 }
 
@@ -48,9 +49,8 @@ fn work_packets(
     ensures { SnapshotWorked one two packet.now opened.old first.old second.old
         opened.new first.new second.new }
 {
-    let taken = one.work.copies;
     work_packet(one, false, packet, opened, first);
-    if taken {
+    if one.work.copies {
         work_packet(two, true, packet, opened, second);
     } else {
         work_packet(two, true, packet, opened, first);
@@ -58,10 +58,11 @@ fn work_packets(
 }
 
 // Is anything to be done?
+#[tactic(auto, unfolding(crate::specs::Inner::Asked::is_busy))]
 fn is_busy(work: Work) -> bool
     ensures { result ≡ is_busy work }
 {
-    work.copies | (work.clears | work.lays)
+    work.copies || work.clears || work.lays
 }
 
 // Most records have no packet, and close nothing.
@@ -77,7 +78,7 @@ pub(crate) fn work_snapshot(
     ensures { SnapshotWorked one two packet.now opened.old first.old second.old
         opened.new first.new second.new }
 {
-    if is_busy(one.work) | is_busy(two.work) {
+    if is_busy(one.work) || is_busy(two.work) {
         work_packets(one, two, packet, opened, first, second);
     }
 }

@@ -85,9 +85,17 @@ module _ (r : List ℕ) where
     unfolding day_holds
     day_low h = let e = word 456 2 (omega arith) in rw (lt-leb 1 (day r) (omega arith))
 
-    pub day_test : 1 ≤ word_in r 456 2 → leb (word_in r 456 2) 366 ≡ day_holds r
+    pub day_high : 366 < word_in r 456 2 → false ≡ day_holds r
     unfolding day_holds
-    day_test h = let e = word 456 2 (omega arith) in rw (e, le-leb 1 (day r) (omega arith))
+    day_high h =
+        let e = word 456 2 (omega arith) in
+        rw (le-leb 1 (day r) (omega arith), lt-leb (day r) 366 (omega arith))
+
+    pub day_within : 1 ≤ word_in r 456 2 → word_in r 456 2 ≤ 366 → true ≡ day_holds r
+    unfolding day_holds
+    day_within l h =
+        let e = word 456 2 (omega arith) in
+        rw (le-leb 1 (day r) (omega arith), le-leb (day r) 366 (omega arith))
 
     pub millisecond_test : ltb (word_in r 458 4) 86400000 ≡ millisecond_holds r
     unfolding millisecond_holds

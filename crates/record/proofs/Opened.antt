@@ -1,6 +1,6 @@
 -- What a verdict says of the record: its size, its contents, its packet.
 -- Assumes nothing.
-use mathlib.Core.Path.{◌≡◌, refl, sym, ◌∙◌}
+use mathlib.Core.Path.{◌≡◌, refl, sym, ap, ◌∙◌}
 use mathlib.Core.Bool.{Bool, true, false, cond}
 use mathlib.Core.List.{List, []}
 use Prim.Native.Nat.{ℕ, ◌+◌, ◌*◌, ◌≤◌}
@@ -11,13 +11,12 @@ use borrow.Author.Tests.{eqb-true, eq-eqb, ne_eqb, le-leb}
 use Rattle.bits.specs.Numbers.{word_in}
 use Rattle.record.specs.Layout.{size, packet_size, packet_bytes, bytes_at}
 use Rattle.prelude.specs.Rules.{first_broken}
-use Rattle.record.specs.Rules.{rules, broken, size_holds, verdict_of}
-use Rattle.record.specs.Contents.{record_of, contents_of, contents_number, ContentsIs}
+use Rattle.std.specs.Prelude.{Result, Ok, Err, ⊤}
+use Rattle.record.specs.Refusals.{numbered}
+use Rattle.record.specs.Rules.{rules, broken, size_holds, refused_number, VerdictIs}
+use Rattle.record.specs.Contents.{record_of, contents_of, ContentsIs}
 use Rattle.record.specs.Parts.{PartIs, PacketIs, PacketAtIs}
-use Rattle.record.specs.declared.Record.{Record}
-use Rattle.record.specs.declared.rules.Verdict.{Verdict}
-use Rattle.record.specs.declared.rules.Verdict.TheVariants.{Passes, Refused}
-use Rattle.record.specs.declared.values.Contents.TheVariants as contents
+use Rattle.record.specs.declared.refusal.Refusal.{Refusal}
 use Rattle.record.proofs.Order.{passes_zero, refused_is}
 
 not_two : (t : Bool) (n : ℕ) → cond t n 2 ≡ 0 → t ≡ true
@@ -36,31 +35,30 @@ module _ (r : List ℕ) where
       let l : length (packet_bytes r) ≡ packet_size = simp (length-take, length-drop) (omega arith) in
       rw (le-leb (8 * at + 8 * n) (8 * length (packet_bytes r)) (omega arith))
 
-  module _ (v : Verdict) (is : v ≡ verdict_of (broken r)) where
-    pub passed : v ≡ Passes → broken r ≡ 0
-    passed e = passes_zero r (broken r) (sym is ∙ e)
+  module _ (v : Result ⊤ Refusal) (told : VerdictIs r v) where
+    pub passed : v ≡ Ok tt → broken r ≡ 0
+    passed e = passes_zero (broken r) (sym told.is ∙ e)
 
-    pub with_fields : v ≡ Passes → (x : Record) → x ≡ record_of r → ContentsIs r (contents.Fields x)
-    unfolding contents_of contents_number
-    with_fields e x f = let z = passed e in record { is = rw (eq-eqb (broken r) 0 z, f); number = sym z }
+    pub with_fields : v ≡ Ok tt → ContentsIs r (Ok (record_of r))
+    unfolding contents_of refused_number
+    with_fields e = let z = passed e in record { is = rw (eq-eqb (broken r) 0 z); number = sym z }
 
-    pub with_packet : (from place : ℕ × ℕ) (p : List ℕ) → v ≡ Passes → PacketAtIs r from p place → PacketIs r from p place
+    pub with_packet : (from place : ℕ × ℕ) (p : List ℕ) → v ≡ Ok tt → PacketAtIs r from p place → PacketIs r from p place
     with_packet from place p e is =
         let z = passed e in
         let t = eq-eqb (broken r) 0 z in
         let h = eq-eqb (length r) size (sized z) in
         record { bytes = rw t (rw h at is.bytes); block = is.block; offset = rw t (rw h at is.offset) }
 
-    module _ (n : ℕ) (e : v ≡ Refused n) where
-      broken_is : broken r ≡ n
-      broken_is = (refused_is r (broken r) n (sym is ∙ e)).0
-
+    module _ (n : Refusal) (e : v ≡ Err n) where
       fails : eqb (broken r) 0 ≡ false
-      fails = ne_eqb (broken r) 0 (λ z. omega (arith, (refused_is r (broken r) n (sym is ∙ e)).1))
+      fails = ne_eqb (broken r) 0 (λ z. omega (arith, (refused_is (broken r) n (sym told.is ∙ e)).1))
 
-      pub without_fields : ContentsIs r (contents.Refused n)
-      unfolding contents_of contents_number
-      without_fields = record { is = rw (fails, broken_is); number = sym broken_is }
+      pub without_fields : ContentsIs r (Err n)
+      unfolding contents_of refused_number
+      without_fields =
+          let k : numbered (broken r) ≡ n = (refused_is (broken r) n (sym told.is ∙ e)).0 in
+          record { is = rw fails (cc); number = sym (ap refused_number e) ∙ told.number }
 
       pub without_packet : (from : ℕ × ℕ) → PacketIs r from [] from
       without_packet from = record { bytes = rw fails; block = refl; offset = rw fails }

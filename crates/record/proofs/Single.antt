@@ -5,6 +5,7 @@ use mathlib.Core.Path.{◌≡◌}
 use mathlib.Core.Bool.{Bool}
 use mathlib.Core.List.{List}
 use Prim.Native.Nat.{ℕ}
+use Rattle.std.specs.Prelude.{Result, ⊤}
 use Rattle.prelude.proofs.Single.{one}
 use Rattle.record.specs.Frame.{KindIs}
 use Rattle.record.specs.Signal.{LevelIs}
@@ -13,8 +14,8 @@ use Rattle.record.specs.Contents.{ContentsIs}
 use Rattle.record.specs.Parts.{PartIs}
 use Rattle.record.specs.declared.frame.Kind.{Kind}
 use Rattle.record.specs.declared.signal.Level.{Level}
-use Rattle.record.specs.declared.rules.Verdict.{Verdict}
-use Rattle.record.specs.declared.values.Contents.{Contents}
+use Rattle.record.specs.declared.Record.{Record}
+use Rattle.record.specs.declared.refusal.Refusal.{Refusal}
 
 pub one_kind : (p : List ℕ) (k l : Kind) → KindIs p k → KindIs p l → k ≡ l
 one_kind p k l x y = one x.is y.is
@@ -22,10 +23,10 @@ one_kind p k l x y = one x.is y.is
 pub one_level : (bits : ℕ) (k l : Level) → LevelIs bits k → LevelIs bits l → k ≡ l
 one_level bits k l x y = one x.is y.is
 
-pub one_verdict : (r : List ℕ) (v w : Verdict) → VerdictIs r v → VerdictIs r w → v ≡ w
+pub one_verdict : (r : List ℕ) (v w : Result ⊤ Refusal) → VerdictIs r v → VerdictIs r w → v ≡ w
 one_verdict r v w x y = one x.is y.is
 
-pub one_contents : (r : List ℕ) (c d : Contents) → ContentsIs r c → ContentsIs r d → c ≡ d
+pub one_contents : (r : List ℕ) (c d : Result Record Refusal) → ContentsIs r c → ContentsIs r d → c ≡ d
 one_contents r c d x y = one x.is y.is
 
 -- the bytes of a part, and where they lie: of `packet`, `packet_in`, `mag_bytes` and `science_bytes`

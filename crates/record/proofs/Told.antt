@@ -8,41 +8,40 @@ use lib.ListN.{length, length-take, length-drop}
 use borrow.Author.Tests.{eq-eqb}
 use Rattle.record.specs.Layout.{size, packet_size, packet_bytes}
 use Rattle.record.proofs.Opened.{sized}
-use Rattle.record.specs.Rules.{broken, verdict_number, VerdictIs}
-use Rattle.record.specs.Contents.{record_of, contents_of, contents_number, ContentsIs}
+use Rattle.std.specs.Prelude.{Result, Ok, Err, ⊤}
+use Rattle.record.specs.Refusals.{refusal_number}
+use Rattle.record.specs.Rules.{broken, refused_number, VerdictIs}
+use Rattle.record.specs.Contents.{record_of, contents_of, ContentsIs}
 use Rattle.record.specs.Parts.{packet_of}
 use Rattle.record.specs.declared.Record.{Record}
-use Rattle.record.specs.declared.rules.Verdict.{Verdict}
-use Rattle.record.specs.declared.rules.Verdict.TheVariants.{Passes, Refused}
-use Rattle.record.specs.declared.values.Contents.{Contents}
-use Rattle.record.specs.declared.values.Contents.TheVariants as contents
+use Rattle.record.specs.declared.refusal.Refusal.{Refusal}
 
-module _ (r : List ℕ) (v : Verdict) (is : VerdictIs r v) where
-  pub passes_told : v ≡ Passes → 0 ≡ broken r
-  unfolding verdict_number
-  passes_told e = sym (ap verdict_number e) ∙ is.number
+module _ (r : List ℕ) (v : Result ⊤ Refusal) (is : VerdictIs r v) where
+  pub passes_told : v ≡ Ok tt → 0 ≡ broken r
+  unfolding refused_number
+  passes_told e = sym (ap refused_number e) ∙ is.number
 
-  pub refused_told : (n : ℕ) → v ≡ Refused n → n ≡ broken r
-  unfolding verdict_number
-  refused_told n e = sym (ap verdict_number e) ∙ is.number
+  pub refused_told : (n : Refusal) → v ≡ Err n → refusal_number n ≡ broken r
+  unfolding refused_number
+  refused_told n e = sym (ap refused_number e) ∙ is.number
 
-module _ (r : List ℕ) (c : Contents) (is : ContentsIs r c) where
+module _ (r : List ℕ) (c : Result Record Refusal) (is : ContentsIs r c) where
   -- the fields, of a record that passes
-  pub fields_told : (f : Record) → c ≡ contents.Fields f → (broken r ≡ 0) × (f ≡ record_of r)
-  unfolding contents_number contents_of
+  pub fields_told : (f : Record) → c ≡ Ok f → (broken r ≡ 0) × (f ≡ record_of r)
+  unfolding refused_number contents_of
   fields_told f e =
-      let z : broken r ≡ 0 = sym is.number ∙ ap contents_number e in
-      let k : contents_of r ≡ contents.Fields (record_of r) = rw (eq-eqb (broken r) 0 z) in
+      let z : broken r ≡ 0 = sym is.number ∙ ap refused_number e in
+      let k : contents_of r ≡ Ok (record_of r) = rw (eq-eqb (broken r) 0 z) in
       (z, cc is.is)
 
   -- the number, of a record that doesn't
-  pub number_told : (n : ℕ) → c ≡ contents.Refused n → (n ≡ broken r) × (n ≡ 0 → ⊥)
-  unfolding contents_number contents_of
+  pub number_told : (n : Refusal) → c ≡ Err n → (refusal_number n ≡ broken r) × (refusal_number n ≡ 0 → ⊥)
+  unfolding refused_number contents_of
   number_told n e =
-      let z : n ≡ broken r = sym (ap contents_number e) ∙ is.number in (
+      let z : refusal_number n ≡ broken r = sym (ap refused_number e) ∙ is.number in (
         z,
         λ o.
-            let k : contents_of r ≡ contents.Fields (record_of r) = rw (eq-eqb (broken r) 0 (sym z ∙ o)) in
+            let k : contents_of r ≡ Ok (record_of r) = rw (eq-eqb (broken r) 0 (sym z ∙ o)) in
             let f : ◌≡◌ {A = ℕ} 0 1 = cc is.is in
             omega arith,
       )

@@ -25,6 +25,14 @@ defined FullBurst = true
 defined Other = true
 defined Undefined = false
 
+pub not_undefined : (k : Kind) → (k ≡ Undefined → ⊥) → defined k ≡ true
+unfolding defined
+not_undefined (RealTime t) h = refl
+not_undefined HalfBurst h = refl
+not_undefined FullBurst h = refl
+not_undefined Other h = refl
+not_undefined Undefined h = absurd (h refl)
+
 same : Bool → Bool → Bool
 same true b = b
 same false b = not b
@@ -169,9 +177,9 @@ eleven r h =
     let l : length p ≡ packet_size = simp (length-take, length-drop) (omega arith) in
     rw (kind_if p l) (tested (frame_code p) (second_code p))
 
--- rule 11 by the case of the kind that was found
-pub eleven_told : (r : List ℕ) → length r ≡ size → {k v : Kind} → k ≡ kind_of (packet_bytes r) → k ≡ v → defined v ≡ type_holds r
-eleven_told r h e t = ap defined (sym t ∙ e) ∙ sym (eleven r h)
+-- rule 11 by the kind that was found
+pub eleven_told : (r : List ℕ) → length r ≡ size → {k : Kind} → k ≡ kind_of (packet_bytes r) → defined k ≡ type_holds r
+eleven_told r h e = ap defined e ∙ sym (eleven r h)
 
 -- the frames that carry science are the real-time ones
 pub science_real : (k : Kind) → carries_science k ≡ is_real_time k

@@ -1,15 +1,15 @@
 -- The fields of a record that passes (01, "The record", "The packet"; 02, request 2).
 -- Assumes nothing.
-use Rattle.std.specs.Prelude.{cond, ℕ, List, ◌≡◌, eqb}
+use Rattle.std.specs.Prelude.{cond, ℕ, List, ◌≡◌, eqb, Result, Ok, Err}
 use Rattle.record.specs.Layout.{count, packet_bytes, day, millisecond, level, quality}
 use Rattle.record.specs.Layout.{first_flag, second_flag, third_flag, frame_code, frame_type, second_code, subcom}
 use Rattle.record.specs.Frame.{kind_of, second_burst}
 use Rattle.record.specs.Signal.{level_of}
-use Rattle.record.specs.Rules.{broken}
+use Rattle.record.specs.Refusals.{numbered}
+use Rattle.record.specs.Rules.{broken, refused_number}
 use Rattle.record.specs.declared.Record.{Record}
 use Rattle.record.specs.declared.signal.Reading.{Reading}
-use Rattle.record.specs.declared.values.Contents.{Contents}
-use Rattle.record.specs.declared.values.Contents.TheVariants.{Fields, Refused}
+use Rattle.record.specs.declared.refusal.Refusal.{Refusal}
 
 -- "Signal level and quality travel together as one reading"
 abbrev pub reading_of : List ℕ → Reading
@@ -32,15 +32,10 @@ record_of r = record {
 }
 
 -- the fields of a record that passes rules 2 to 11; else the rule's number and no fields
-unfoldable pub contents_of : List ℕ → Contents
-contents_of r = cond (eqb (broken r) 0) (Fields (record_of r)) (Refused (broken r))
-
--- 01's number of each case
-unfoldable pub contents_number : Contents → ℕ
-contents_number (Fields f) = 0
-contents_number (Refused n) = n
+unfoldable pub contents_of : List ℕ → Result Record Refusal
+contents_of r = cond (eqb (broken r) 0) (Ok (record_of r)) (Err (numbered (broken r)))
 
 -- the contents of a record; and their number, which follows
-pub record ContentsIs (r : List ℕ) (c : Contents) : Type 0 where
+pub record ContentsIs (r : List ℕ) (c : Result Record Refusal) : Type 0 where
   pub is : c ≡ contents_of r
-  pub number : contents_number c ≡ broken r
+  pub number : refused_number c ≡ broken r

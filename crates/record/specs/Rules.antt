@@ -1,12 +1,12 @@
 -- Rules 2 to 11, "checked in this order; the first that fails is given" (01, "Numbers a refused record gets").
 -- Assumes nothing.
-use Rattle.std.specs.Prelude.{ℕ, ◌↔◌, Bool, true, false, not, cond, ◌&&◌, ◌||◌, List, [], ◌∷◌, ◌≡◌, eqb, leb, length}
+use Rattle.std.specs.Prelude.{ℕ, ◌↔◌, Bool, true, false, not, cond, ◌&&◌, ◌||◌, List, [], ◌∷◌, ◌≡◌, eqb, leb, length, Result, Ok, Err, ⊤}
 use Rattle.prelude.specs.Rules.{Rule, rule, first_broken, holds_in, before_hold, all_hold}
 use Rattle.record.specs.Layout.{size, sync, version, spacecraft, rate, spare, packet_bytes, frame_code, second_code}
 use Rattle.record.specs.Layout.{day, millisecond, status_spare, first_flag, second_flag, third_flag}
 use Rattle.record.specs.Frame.{undefined_codes}
-use Rattle.record.specs.declared.rules.Verdict.{Verdict}
-use Rattle.record.specs.declared.rules.Verdict.TheVariants.{Passes, Refused}
+use Rattle.record.specs.Refusals.{refusal_number, numbered}
+use Rattle.record.specs.declared.refusal.Refusal.{Refusal}
 
 -- Each test is true where the rule holds. 01's row says when it fails.
 
@@ -72,21 +72,26 @@ rules =
 unfoldable pub broken : List ℕ → ℕ
 broken r = first_broken rules r
 
-abbrev pub verdict_of : ℕ → Verdict
-verdict_of n = cond (eqb n 0) Passes (Refused n)
+-- refused with a number, or not: with 0
+unfoldable pub verdict_of : ℕ → Result ⊤ Refusal
+verdict_of n = cond (eqb n 0) (Ok tt) (Err (numbered n))
 
--- 01's number of each case
-unfoldable pub verdict_number : Verdict → ℕ
-verdict_number Passes = 0
-verdict_number (Refused n) = n
+-- 01's number of a refusal; 0 of what isn't refused, whatever else it answers
+unfoldable pub refused_number : {A : Type 0} → Result A Refusal → ℕ
+refused_number (Ok _) = 0
+refused_number (Err e) = refusal_number e
 
 -- the verdict on a record; and its number, which follows, since 01's numbers are what a promise goes by
-pub record VerdictIs (r : List ℕ) (v : Verdict) : Type 0 where
+pub record VerdictIs (r : List ℕ) (v : Result ⊤ Refusal) : Type 0 where
   pub is : v ≡ verdict_of (broken r)
-  pub number : verdict_number v ≡ broken r
+  pub number : refused_number v ≡ broken r
+
+-- refused with n: with the row of the table that has it
+abbrev pub RefusedWith : List ℕ → ℕ → Type 0
+RefusedWith r n = (verdict_of (broken r) ≡ Err (numbered n)) × (refusal_number (numbered n) ≡ n)
 
 -- refused with n exactly when rule n fails and those before it in the list hold; passes exactly when all hold. Proved for every
 -- list of bytes: `exactly` in proofs/Order.antt
 pub record Exactly (r : List ℕ) : Type 0 where
-  pub refused : (n : ℕ) → (verdict_of (broken r) ≡ Refused n) ↔ ((holds_in rules n r ≡ false) × (before_hold rules n r ≡ true))
-  pub passes : (verdict_of (broken r) ≡ Passes) ↔ (all_hold rules r ≡ true)
+  pub refused : (n : ℕ) → RefusedWith r n ↔ ((holds_in rules n r ≡ false) × (before_hold rules n r ≡ true))
+  pub passes : (verdict_of (broken r) ≡ Ok tt) ↔ (all_hold rules r ≡ true)

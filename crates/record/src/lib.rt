@@ -4,22 +4,21 @@
 
 mod frame;
 mod part;
+mod refusal;
 mod rules;
 mod signal;
 mod values;
 
-pub use frame::{
-    Kind, carries_burst, carries_mag, carries_science, carries_two, first_burst, kind_number,
-    kind_of,
-};
+pub use frame::{Kind, first_burst, kind_of};
 pub use part::{burst_bytes, mag_bytes, packet, packet_in, science_bytes};
-pub use rules::{Verdict, check};
+pub use refusal::Refusal;
+pub use rules::check;
 pub use signal::{Level, Reading, bits_of, level_of};
-pub use values::{Contents, fields};
+pub use values::fields;
 
 // The fields of a record that passes rules 2 to 11; the second code is that of a full burst's second packet, and 0 in any other
 // frame. Its fixed facts are the constants below, written once.
-#[derive(Clone, Copy)]
+#[derive(Clone, Copy, Debug)]
 pub struct Record {
     pub count: u32,
     pub day: u16,

@@ -3,10 +3,11 @@ ghost use Rattle.std.specs.Prelude.{◌+◌, ◌≤◌, eqb, length, ◌≡◌};
 ghost use Rattle.record.specs.Parts.{PartIs, PacketIs, PacketAtIs, MagIs, ScienceIs, burst_at, has_burst, BurstIs};
 
 use crate::Record;
-use crate::frame::{Kind, carries_burst, carries_two, kind_of};
-use crate::rules::{Verdict, check};
+use crate::frame::{Kind, kind_of};
+use crate::rules::check;
 
-// The n bytes from place `at` on, of bytes that are of the size named; of others an empty part, at their start.
+// The n bytes from place `at` on, of bytes that are of the size named; of others an empty part, at their start, and no option: `PartIs`,
+// `PacketIs` and `BurstIs` promise so, and C tells it by the size.
 fn part<'a>(b: &'a [u8], size: usize, at: usize, n: usize) -> &'a [u8]
     requires { at + n ≤ size }
     ensures { PartIs (eqb (length b.now) size) at n b.now b.entry.ref_ptr result.now result.ref_ptr }
@@ -29,14 +30,13 @@ pub fn packet_in<'a>(r: &'a [u8]) -> &'a [u8]
 pub fn packet<'a>(r: &'a [u8]) -> &'a [u8]
     ensures { PacketIs r.now r.entry.ref_ptr result.now result.ref_ptr }
 {
-    let verdict = check(r);
-    match verdict {
-        Verdict::Passes => packet_in(r),
-        Verdict::Refused(_) => &r[..0],
+    match check(r) {
+        Ok(()) => packet_in(r),
+        Err(_) => &r[..0],
     }
 }
 
-// The MAG bytes of a packet.
+// The MAG bytes of a packet. As of the ER bytes, a promise of its own over `part`: one function for both would ask which.
 pub fn mag_bytes<'a>(packet: &'a [u8]) -> &'a [u8]
     ensures { MagIs packet.now packet.entry.ref_ptr result.now result.ref_ptr }
 {
@@ -65,9 +65,10 @@ fn has_burst(kind: Kind, second: bool) -> bool
     ensures { result ≡ has_burst kind second }
 {
     if second {
-        return carries_two(kind);
+        kind.carries_two()
+    } else {
+        kind.carries_burst()
     }
-    carries_burst(kind)
 }
 
 // Where a burst packet stands: the first of two where MAG would.
@@ -77,13 +78,15 @@ fn burst_at(kind: Kind, second: bool) -> usize
     if second {
         return Record::SECOND_AT;
     }
-    if carries_two(kind) {
+    if kind.carries_two() {
         return Record::MAG_AT;
     }
     Record::SECOND_AT
 }
 
-// The bytes of a packet's first burst packet, or of its second; an empty part where it has none.
+// The bytes of a packet's first burst packet, or of its second; an empty part where it has none. `second` is a flag, as in `burst_bytes`,
+// `has_burst` (record/Parts) and in all that stands on them, and C's `which`.
+#[tactic(auto, using(crate::proofs::Types::burst_size_lem, crate::proofs::Types::burst_room))]
 pub fn burst_bytes<'a>(packet: &'a [u8], second: bool) -> &'a [u8]
     ensures { BurstIs packet.now second packet.entry.ref_ptr result.now result.ref_ptr }
 {

@@ -1,35 +1,23 @@
 // The fields of a record (01, "The record", "The packet").
-ghost use Rattle.std.specs.Prelude.{◌≡◌, length};
-ghost use Rattle.record.specs.Layout.{size};
+ghost use Rattle.std.specs.Prelude.{◌≡◌};
 ghost use Rattle.record.specs.Contents.{reading_of, record_of, ContentsIs};
 
-use crate::Record;
 use crate::frame::{kind_of, second_burst};
-use crate::rules::{Verdict, check};
+use crate::rules::{check_sized, sized};
 use crate::signal::{Reading, level_of};
+use crate::{Record, Refusal};
 
-// The fields of a record that passes rules 2 to 11, or the number of the first rule that fails and no fields.
-#[derive(Clone, Copy)]
-pub enum Contents {
-    Fields(Record),
-    Refused(u8),
-}
-
-fn reading_of(r: &[u8]) -> Reading
-    requires { length r.now ≡ size }
+fn reading_of(r: &[u8; Record::SIZE]) -> Reading
     ensures { result ≡ reading_of r.now }
 {
-    let level = level_of(bits::word32(r, Record::LEVEL_AT));
-    let quality = level_of(bits::word32(r, Record::QUALITY_AT));
     Reading {
-        level: level,
-        quality: quality,
+        level: level_of(bits::word32(r, Record::LEVEL_AT)),
+        quality: level_of(bits::word32(r, Record::QUALITY_AT)),
     }
 }
 
 // The fields of a record of the right size, whatever else it holds.
-fn record_of(r: &[u8]) -> Record
-    requires { length r.now ≡ size }
+fn record_of(r: &[u8; Record::SIZE]) -> Record
     ensures { result ≡ record_of r.now }
 {
     let packet = &r[Record::PACKET_AT..Record::PACKET_END];
@@ -37,7 +25,6 @@ fn record_of(r: &[u8]) -> Record
     let code = packet[Record::CODE_AT];
     let kind = kind_of(packet);
     let second = second_burst(kind, packet[Record::SECOND_CODE_AT]);
-    let reading = reading_of(r);
     Record {
         count: bits::word24(r, Record::COUNT_AT),
         day: bits::word16(r, Record::DAY_AT),
@@ -47,19 +34,18 @@ fn record_of(r: &[u8]) -> Record
         third_flag: (status % 4) as u8,
         frame_code: code,
         frame_type: code % 64,
-        kind: kind,
+        kind,
         second_code: second,
         subcom: bits::word16(packet, Record::SUBCOM_AT),
-        reading: reading,
+        reading: reading_of(r),
     }
 }
 
-pub fn fields(r: &[u8]) -> Contents
+// The fields of a record that passes rules 2 to 11, or the number of the first rule that fails and no fields.
+pub fn fields(r: &[u8]) -> Result<Record, Refusal>
     ensures { ContentsIs r.now result }
 {
-    let verdict = check(r);
-    match verdict {
-        Verdict::Passes => Contents::Fields(record_of(r)),
-        Verdict::Refused(n) => Contents::Refused(n),
-    }
+    let r = sized(r)?;
+    check_sized(r)?;
+    Ok(record_of(r))
 }

@@ -2,16 +2,19 @@
 -- Assumes nothing.
 use mathlib.Core.Path.{◌≡◌, refl, sym}
 use mathlib.Core.List.{List, [], ◌∷◌}
-use mathlib.Core.Bool.{Bool, true, false, ◌&&◌}
+use mathlib.Core.Bool.{Bool, true, false, cond, ◌&&◌}
 use Prim.Native.Nat.{ℕ, zero, suc, ◌≤◌}
 use native.Mathlib.Omega.{arith}
 use lib.Dec.{eqb, leb}
 use borrow.Author.Tests.{eqb-true, leb-true}
 use Rattle.prelude.proofs.Conds.{two}
+use Rattle.std.specs.Prelude.{Ok, Err}
+use Rattle.record.specs.declared.refusal.Refusal.{Refusal}
+use Rattle.record.specs.declared.refusal.Refusal.TheVariants.{BufferOrState}
 use Rattle.state.specs.Soundness.{fresh}
 use Rattle.state.specs.declared.State.{State}
 use Rattle.shapes.specs.Frames.{flag}
-use Rattle.shapes.specs.States.{is_state, state_in, state_out}
+use Rattle.shapes.specs.States.{is_state, state_in, state_of, state_out}
 use Rattle.shapes.specs.declared.states.CState.{CState}
 
 flag_back : (b : Bool) → eqb (flag b) 1 ≡ b
@@ -115,3 +118,21 @@ fresh_out = refl
 
 pub fresh_in : state_in zeros ≡ fresh
 fresh_in = refl
+
+-- what is known of the state of a struct that stands for one, and of a struct that stands for none
+module _ (c : CState) where
+  pub state_told : (s : State) → state_of c ≡ Ok s → (is_state c ≡ true) × (s ≡ state_in c)
+  unfolding state_of
+  state_told s e = go (is_state c) refl e
+    where
+      go : (b : Bool) → b ≡ is_state c → cond b (Ok (state_in c)) (Err BufferOrState) ≡ Ok s → (is_state c ≡ true) × (s ≡ state_in c)
+      go true q h = (sym q, cc)
+      go false q h = absurd (cc)
+
+  pub none_told : (e : Refusal) → state_of c ≡ Err e → is_state c ≡ false
+  unfolding state_of
+  none_told e h = go (is_state c) refl h
+    where
+      go : (b : Bool) → b ≡ is_state c → cond b (Ok (state_in c)) (Err BufferOrState) ≡ Err e → is_state c ≡ false
+      go true q h = absurd (cc)
+      go false q h = sym q

@@ -1,8 +1,10 @@
 -- What a call closed, and the reports, as C has them (include/lpmag.h, "structs").
 -- Assumes nothing.
-use Rattle.std.specs.Prelude.{ℕ}
+use Rattle.std.specs.Prelude.{ℕ, Option, Some, None, is_some, unwrap_or}
+use Rattle.accumulation.specs.declared.AccumulationReport.{AccumulationReport}
 use Rattle.accumulation.specs.declared.GapDecision.{GapDecision}
 use Rattle.accumulation.specs.declared.GapDecision.TheVariants.{Opens, Joins, Neither}
+use Rattle.major.specs.Major.{no_major}
 use Rattle.snapshot.specs.declared.SnapshotReport.{SnapshotReport}
 use Rattle.state.specs.declared.closed.Closed.{Closed}
 use Rattle.state.specs.declared.deciding.Taken.{Taken}
@@ -19,17 +21,28 @@ gap_number Opens = 0
 gap_number Joins = 1
 gap_number Neither = 2
 
-abbrev pub closed_snapshot_out : SnapshotReport → CClosedSnapshot
-closed_snapshot_out s = record { first = s.first; held = s.held; closed = flag s.closed; spare8 = 0; spare16 = 0 }
+-- of a snapshot that closed its first count and its packets; all 0 where none did
+abbrev pub closed_snapshot_out : Option SnapshotReport → CClosedSnapshot
+closed_snapshot_out None = record { first = 0; held = 0; closed = 0; spare8 = 0; spare16 = 0 }
+closed_snapshot_out (Some s) = record { first = s.first; held = s.held; closed = 1; spare8 = 0; spare16 = 0 }
+
+-- of an accumulation likewise
+abbrev pub closed_first : Option AccumulationReport → ℕ
+closed_first None = 0
+closed_first (Some a) = a.first
+
+abbrev pub closed_held : Option AccumulationReport → ℕ
+closed_held None = 0
+closed_held (Some a) = a.held
 
 -- what closed first, and what closed second (02, request 2): each in its own place
 abbrev pub closed_out : Closed → CClosed
 closed_out c = record {
-  major = major_out c.major.frame;
-  accumulation_first = c.accumulation.first;
-  accumulation_held = c.accumulation.held;
-  major_closed = flag c.major.closed;
-  accumulation_closed = flag c.accumulation.closed;
+  major = major_out (unwrap_or c.major no_major);
+  accumulation_first = closed_first c.accumulation;
+  accumulation_held = closed_held c.accumulation;
+  major_closed = flag (is_some c.major);
+  accumulation_closed = flag (is_some c.accumulation);
   spare16 = 0;
   spare32 = 0;
   first_snapshot = closed_snapshot_out c.first_snapshot;

@@ -1,6 +1,8 @@
 -- The reader's state as C has it (include/lpmag.h, "structs").
 -- Assumes nothing.
-use Rattle.std.specs.Prelude.{Bool, ◌&&◌, eqb, leb}
+use Rattle.std.specs.Prelude.{Bool, cond, ◌&&◌, eqb, leb, Result, Ok, Err}
+use Rattle.record.specs.declared.refusal.Refusal.{Refusal}
+use Rattle.record.specs.declared.refusal.Refusal.TheVariants.{BufferOrState}
 use Rattle.accumulation.specs.declared.Accumulation.{Accumulation}
 use Rattle.snapshot.specs.declared.Snapshot.{Snapshot}
 use Rattle.state.specs.declared.State.{State}
@@ -48,6 +50,10 @@ state_in c = record {
   major = major_in c.major;
   snapshot = snapshot_in c.snapshot;
 }
+
+-- the state of a struct; rule 1, "the state breaks the list", for what stands for none
+unfoldable pub state_of : CState → Result State Refusal
+state_of c = cond (is_state c) (Ok (state_in c)) (Err BufferOrState)
 
 abbrev pub state_out : State → CState
 state_out s = record {

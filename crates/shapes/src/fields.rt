@@ -6,7 +6,7 @@ use record::{Level, Record};
 
 // Level and quality are their 32 bits, with a mark that says whether they are a number.
 #[repr(C)]
-#[derive(Clone, Copy)]
+#[derive(Clone, Copy, Debug, PartialEq, Eq)]
 pub struct CFields {
     pub count: u32,
     pub millisecond: u32,
@@ -27,6 +27,7 @@ pub struct CFields {
     pub spare16: u16,
 }
 
+// C's mark, which is a byte (`CFields`); the definition `finite_mark` has its numbers.
 #[tactic(auto, unfolding(crate::specs::Fields::finite_mark))]
 fn mark_of(level: Level) -> u8
     ensures { result ≡ finite_mark level }
@@ -37,30 +38,28 @@ fn mark_of(level: Level) -> u8
     }
 }
 
-pub fn fields_out(f: Record) -> CFields
-    ensures { result ≡ fields_out f }
-{
-    let kind = f.kind;
-    let reading = f.reading;
-    let level = reading.level;
-    let quality = reading.quality;
-    CFields {
-        count: f.count,
-        millisecond: f.millisecond,
-        level: record::bits_of(level),
-        quality: record::bits_of(quality),
-        day: f.day,
-        subcom: f.subcom,
-        first_flag: f.first_flag,
-        second_flag: f.second_flag,
-        third_flag: f.third_flag,
-        frame_code: f.frame_code,
-        frame_type: f.frame_type,
-        kind: record::kind_number(kind),
-        level_finite: mark_of(level),
-        quality_finite: mark_of(quality),
-        second_code: f.second_code,
-        spare8: 0,
-        spare16: 0,
+impl From<Record> for CFields {
+    ghost from_gives = { λ f c. c ≡ fields_out f };
+
+    fn from(f: Record) -> CFields {
+        CFields {
+            count: f.count,
+            millisecond: f.millisecond,
+            level: record::bits_of(f.reading.level),
+            quality: record::bits_of(f.reading.quality),
+            day: f.day,
+            subcom: f.subcom,
+            first_flag: f.first_flag,
+            second_flag: f.second_flag,
+            third_flag: f.third_flag,
+            frame_code: f.frame_code,
+            frame_type: f.frame_type,
+            kind: f.kind.number(),
+            level_finite: mark_of(f.reading.level),
+            quality_finite: mark_of(f.reading.quality),
+            second_code: f.second_code,
+            spare8: 0,
+            spare16: 0,
+        }
     }
 }

@@ -4,8 +4,9 @@ ghost use Rattle.shapes.specs.Frames.{major_in, major_out};
 
 use major::{Major, SLOTS};
 
+// Words and ranges side by side: C's layout.
 #[repr(C)]
-#[derive(Clone, Copy)]
+#[derive(Clone, Copy, Debug, PartialEq, Eq)]
 pub struct CMajor {
     pub number: u64,
     pub words: [u16; SLOTS],
@@ -16,31 +17,46 @@ pub struct CMajor {
 }
 
 // The major frame of C's struct, whose spare field isn't looked at.
-pub fn major_in(c: CMajor) -> Major
-    ensures { result ≡ major_in c }
-{
-    let words = c.words;
-    let ranges = c.ranges;
-    Major {
-        number: c.number,
-        words: words,
-        ranges: ranges,
-        slots: c.slots,
-        mag_slots: c.mag_slots,
+impl From<CMajor> for Major {
+    ghost from_gives = { λ c m. m ≡ major_in c };
+
+    fn from(c: CMajor) -> Major {
+        let CMajor {
+            number,
+            words,
+            ranges,
+            slots,
+            mag_slots,
+            ..
+        } = c;
+        Major {
+            number,
+            words,
+            ranges,
+            slots,
+            mag_slots,
+        }
     }
 }
 
-pub fn major_out(m: Major) -> CMajor
-    ensures { result ≡ major_out m }
-{
-    let words = m.words;
-    let ranges = m.ranges;
-    CMajor {
-        number: m.number,
-        words: words,
-        ranges: ranges,
-        slots: m.slots,
-        mag_slots: m.mag_slots,
-        spare32: 0,
+impl From<Major> for CMajor {
+    ghost from_gives = { λ m c. c ≡ major_out m };
+
+    fn from(m: Major) -> CMajor {
+        let Major {
+            number,
+            words,
+            ranges,
+            slots,
+            mag_slots,
+        } = m;
+        CMajor {
+            number,
+            words,
+            ranges,
+            slots,
+            mag_slots,
+            spare32: 0,
+        }
     }
 }

@@ -1,13 +1,15 @@
--- The open snapshot's bytes are copied to a finished buffer just when a snapshot is reported as closed; what isn't closed is all 0.
+-- The open snapshot's bytes are copied to a finished buffer just when a snapshot is reported as closed.
 -- Assumes nothing.
 use mathlib.Core.Path.{◌≡◌, refl, sym, ◌∙◌}
 use mathlib.Core.Bool.{Bool, true, false, cond, not, ◌&&◌, ◌||◌, true≢false}
 use Prim.Native.Nat.{ℕ, ◌+◌, ◌≤◌}
 use native.Mathlib.Omega.{arith}
+use Rattle.std.specs.Prelude.{Option, Some, None, is_some}
+use Rattle.std.specs.Option.{option_or, option_and}
 use Rattle.buffers.specs.Working.{no_work, closing_work}
 use Rattle.buffers.specs.declared.work.Work.{Work}
 use Rattle.buffers.proofs.Closing.{Closes, closes_none, closes}
-use Rattle.snapshot.specs.Snapshot.{is_open, is_part, follows, cut_if, joins, unreported, reported, packet_work, step_packet, together, step_snapshot}
+use Rattle.snapshot.specs.Snapshot.{is_open, is_part, follows, cut_if, joins, reported, packet_work, step_packet, together, step_snapshot}
 use Rattle.bursts.specs.Bursts.{burst_size, snapshot_size}
 use Rattle.clock.specs.declared.Clock.{Clock}
 use Rattle.snapshot.specs.declared.Snapshot.{Snapshot}
@@ -16,15 +18,15 @@ use Rattle.snapshot.specs.declared.PacketWork.{PacketWork}
 use Rattle.snapshot.specs.declared.PacketStep.{PacketStep}
 use Rattle.snapshot.proofs.Facts.{mark_small, by}
 
-abbrev pub PacketCloses : Work → SnapshotReport → Type 0
-PacketCloses = Closes (λ (r : SnapshotReport). r.closed) unreported
+abbrev pub PacketCloses : Work → Option SnapshotReport → Type 0
+PacketCloses w r = Closes is_some None w r
 
-pub no_packet : (b c : Bool) → PacketCloses (record { copies = false; clears = b; lays = c }) unreported
-no_packet b c = closes_none (λ r. r.closed) unreported refl b c
+pub no_packet : (b c : Bool) → PacketCloses (record { copies = false; clears = b; lays = c }) None
+no_packet b c = closes_none is_some None refl b c
 
 pub packets_report : (s : Snapshot) (b c : Bool) → (is_open s ≡ true → b ≡ true)
     → PacketCloses (record { copies = is_open s; clears = b; lays = c }) (reported s)
-packets_report s b c h = closes (λ r. r.closed) unreported refl b c _ refl (is_open s) h
+packets_report s b c h = closes is_some None refl b c (Some (record { first = s.first; held = s.held })) refl (is_open s) h
 
 module _ (s : Snapshot) (d code : ℕ) where
   pub packet_closes : PacketCloses (step_packet s d code).work.work (step_packet s d code).report
@@ -57,38 +59,30 @@ module _ (s : Snapshot) (d code : ℕ) where
       go false j e h = absurd (true≢false (sym h))
 
 -- of a record's two packets: what closes first goes to the first finished buffer, and to the second only what closes after it
-pub record SnapshotsClose (one two : PacketWork) (first second : SnapshotReport) : Type 0 where
-  pub first_closed : first.closed ≡ (one.work.copies || two.work.copies)
-  pub second_closed : second.closed ≡ (one.work.copies && two.work.copies)
+pub record SnapshotsClose (one two : PacketWork) (first second : Option SnapshotReport) : Type 0 where
+  pub first_closed : is_some first ≡ (one.work.copies || two.work.copies)
+  pub second_closed : is_some second ≡ (one.work.copies && two.work.copies)
   pub one_cleared : one.work.copies ≡ true → one.work.clears ≡ true
   pub two_cleared : two.work.copies ≡ true → two.work.clears ≡ true
-  pub no_first : first.closed ≡ false → first ≡ unreported
-  pub no_second : second.closed ≡ false → second ≡ unreported
+
+either : (p q : Option SnapshotReport) → is_some (option_or p q) ≡ (is_some p || is_some q)
+either None q = refl
+either (Some r) q = refl
+
+both : (p q : Option SnapshotReport) → is_some (option_and p q) ≡ (is_some p && is_some q)
+both None q = refl
+both (Some r) q = refl
 
 abbrev Together : PacketStep → PacketStep → Type 0
 Together x y = SnapshotsClose (together x y).one (together x y).two (together x y).first (together x y).second
 
 both_close : (x y : PacketStep) → PacketCloses x.work.work x.report → PacketCloses y.work.work y.report → Together x y
-both_close x y p q = go x.report.closed p.copied (λ e. p.nothing e)
-  where
-    go : (t : Bool) → x.work.work.copies ≡ t → (t ≡ false → x.report ≡ unreported)
-        → SnapshotsClose x.work y.work (cond t x.report y.report) (cond t y.report unreported)
-    go true e n = record {
-      first_closed = rw e (sym p.copied ∙ e);
-      second_closed = rw e (sym q.copied);
-      one_cleared = λ k. p.cleared (sym p.copied ∙ k);
-      two_cleared = λ k. q.cleared (sym q.copied ∙ k);
-      no_first = p.nothing;
-      no_second = q.nothing;
-    }
-    go false e n = record {
-      first_closed = rw e (sym q.copied);
-      second_closed = rw e;
-      one_cleared = λ k. p.cleared (sym p.copied ∙ k);
-      two_cleared = λ k. q.cleared (sym q.copied ∙ k);
-      no_first = q.nothing;
-      no_second = λ k. refl;
-    }
+both_close x y p q = record {
+  first_closed = rw (p.copied, q.copied) (either x.report y.report);
+  second_closed = rw (p.copied, q.copied) (both x.report y.report);
+  one_cleared = λ k. p.cleared (sym p.copied ∙ k);
+  two_cleared = λ k. q.cleared (sym q.copied ∙ k);
+}
 
 pub step_closes : (c : Clock) (s : Snapshot) (d one two : ℕ)
     → SnapshotsClose (step_snapshot c s d one two).one (step_snapshot c s d one two).two
@@ -99,28 +93,19 @@ step_closes c s d one two =
     let x = step_packet t d one in
     both_close x (step_packet x.next d two) (packet_closes t d one) (packet_closes x.next d two)
 
-pub no_snapshots : SnapshotsClose (packet_work no_work 0) (packet_work no_work 0) unreported unreported
+pub no_snapshots : SnapshotsClose (packet_work no_work 0) (packet_work no_work 0) None None
 no_snapshots = record {
   first_closed = refl;
   second_closed = refl;
   one_cleared = λ e. absurd (true≢false (sym e));
   two_cleared = λ e. absurd (true≢false (sym e));
-  no_first = λ e. refl;
-  no_second = λ e. refl;
 }
 
 -- finish closes the open one, into the first
-pub end_closes : (s : Snapshot) → SnapshotsClose (packet_work (closing_work (is_open s)) 0) (packet_work no_work 0) (reported s) unreported
+pub end_closes : (s : Snapshot) → SnapshotsClose (packet_work (closing_work (is_open s)) 0) (packet_work no_work 0) (reported s) None
 end_closes s = go (is_open s)
   where
     go : (t : Bool) → SnapshotsClose (packet_work (closing_work t) 0) (packet_work no_work 0)
-        (cond t (record { closed = true; first = s.first; held = s.held }) unreported) unreported
-    go true = record {
-      first_closed = refl;
-      second_closed = refl;
-      one_cleared = λ e. e;
-      two_cleared = λ e. absurd (true≢false (sym e));
-      no_first = λ e. absurd (true≢false e);
-      no_second = λ e. refl;
-    }
+        (cond t (Some (record { first = s.first; held = s.held })) None) None
+    go true = record { first_closed = refl; second_closed = refl; one_cleared = λ e. e; two_cleared = λ e. absurd (true≢false (sym e)) }
     go false = no_snapshots

@@ -1,6 +1,7 @@
 -- The open snapshot of a burst (02, request 2). Counts are full ones (02, request 1).
 -- Assumes nothing.
-use Rattle.std.specs.Prelude.{ℕ, ◌+◌, ◌-◌, ◌^◌, Bool, true, false, cond, not, ◌&&◌, ◌||◌, eqb, ltb, leb}
+use Rattle.std.specs.Prelude.{ℕ, ◌+◌, ◌-◌, ◌^◌, Bool, true, false, cond, not, ◌&&◌, ◌||◌, eqb, ltb, leb, Option, Some, None}
+use Rattle.std.specs.Option.{option_or, option_and}
 use Rattle.prelude.specs.Marks.{bit_set, marked}
 use Rattle.buffers.specs.Working.{no_work}
 use Rattle.buffers.specs.declared.work.Work.{Work}
@@ -56,11 +57,8 @@ abbrev pub started : ℕ → ℕ → Snapshot
 started d code = record { first = d; held = 2 ^ mark_of code; last_type = packet_type code; cut = false }
 
 -- "reports ... are as for accumulations"
-abbrev pub unreported : SnapshotReport
-unreported = record { closed = false; first = 0; held = 0 }
-
-abbrev pub reported : Snapshot → SnapshotReport
-reported s = cond (is_open s) (record { closed = true; first = s.first; held = s.held }) unreported
+abbrev pub reported : Snapshot → Option SnapshotReport
+reported s = cond (is_open s) (Some (record { first = s.first; held = s.held })) None
 
 -- what is done to the open snapshot's bytes; the packet's own go where its type has them
 abbrev pub packet_work : Work → ℕ → PacketWork
@@ -71,10 +69,10 @@ lays code copies clears = packet_work (record { copies = copies; clears = clears
 
 -- a packet that is none of a snapshot's
 abbrev pub passes : Snapshot → ℕ → PacketStep
-passes s code = record { next = cut_if (cuts code) s; report = unreported; work = packet_work no_work 0 }
+passes s code = record { next = cut_if (cuts code) s; report = None; work = packet_work no_work 0 }
 
 abbrev pub extends : Snapshot → ℕ → PacketStep
-extends s code = record { next = joined s code; report = unreported; work = lays code false false }
+extends s code = record { next = joined s code; report = None; work = lays code false false }
 
 -- "otherwise the open one closes and a new one opens"
 abbrev pub renews : Snapshot → ℕ → ℕ → PacketStep
@@ -84,13 +82,14 @@ renews s d code = record { next = started d code; report = reported s; work = la
 unfoldable pub step_packet : Snapshot → ℕ → ℕ → PacketStep
 step_packet s d code = cond (is_part code) (cond (joins s code) (extends s code) (renews s d code)) (passes s code)
 
--- the two packets of a record, one after the other: "A frame can close two ... filled in order"
+-- the two packets of a record, one after the other: "A frame can close two ... filled in order". What closes first is what the first
+-- closes, or else the second; what closes second is what the second closes after the first
 abbrev pub together : PacketStep → PacketStep → SnapshotStep
 together x y =
     record {
       next = y.next;
-      first = cond x.report.closed x.report y.report;
-      second = cond x.report.closed y.report unreported;
+      first = option_or x.report y.report;
+      second = option_and x.report y.report;
       one = x.work;
       two = y.work;
     }

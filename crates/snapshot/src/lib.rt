@@ -8,11 +8,12 @@ mod steps;
 
 use buffers::Work;
 pub use soundness::is_sound;
-pub use steps::{no_packet_work, no_snapshot, report, step, unreported};
+pub use steps::{no_packet_work, no_snapshot, report, step};
 
+// No option where none is open: any state may be handed in (demand 1), and one with a field left over is refused with 1 (`none_open`).
 // The count of the frame that brought its first packet, the packets held (bit t - 36 for type t), the type of its last packet, and
 // whether, since that one, a count wasn't accepted or a burst packet came whose type byte has bit 6. It is open when it holds a packet.
-#[derive(Clone, Copy)]
+#[derive(Clone, Copy, Debug, PartialEq, Eq)]
 pub struct Snapshot {
     pub first: u64,
     pub held: u32,
@@ -20,15 +21,16 @@ pub struct Snapshot {
     pub cut: bool,
 }
 
-// Whether a snapshot was closed, the count of its first packet's frame and the packets it holds; all 0 where none was.
-#[derive(Clone, Copy)]
+// Of a snapshot that was closed, the count of its first packet's frame and the packets it holds. Alike to an accumulation's but for the width
+// of the marks: a type over both would be one more name for two fields.
+#[derive(Clone, Copy, Debug, PartialEq, Eq)]
 pub struct SnapshotReport {
-    pub closed: bool,
     pub first: u64,
     pub held: u32,
 }
 
-// What is done to the snapshot's bytes, and where a packet's own are laid.
+// What is done to the snapshot's bytes, and where a packet's own are laid: a place, where a major frame's work (`SlotWork`) has a slot. It stands
+// beside the flag `lays`, 0 where nothing is laid: so `packet_work` in the statements has it.
 #[derive(Clone, Copy)]
 pub struct PacketWork {
     pub work: Work,
@@ -39,7 +41,7 @@ pub struct PacketWork {
 #[derive(Clone, Copy)]
 pub struct PacketStep {
     pub next: Snapshot,
-    pub report: SnapshotReport,
+    pub report: Option<SnapshotReport>,
     pub work: PacketWork,
 }
 
@@ -47,8 +49,8 @@ pub struct PacketStep {
 #[derive(Clone, Copy)]
 pub struct SnapshotStep {
     pub next: Snapshot,
-    pub first: SnapshotReport,
-    pub second: SnapshotReport,
+    pub first: Option<SnapshotReport>,
+    pub second: Option<SnapshotReport>,
     pub one: PacketWork,
     pub two: PacketWork,
 }

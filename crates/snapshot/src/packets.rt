@@ -10,7 +10,7 @@ use clock::Clock;
 pub(crate) fn is_part(code: u8) -> bool
     ensures { result ≡ is_part code }
 {
-    (FIRST <= code % 64) & (code % 64 <= 55)
+    matches!(code % 64, FIRST..=55)
 }
 
 // Is bit 6 set?
@@ -25,21 +25,16 @@ pub(crate) fn cuts(code: u8) -> bool
 pub(crate) fn follows(clock: Clock, d: u64) -> bool
     ensures { result ≡ follows clock d }
 {
-    if d == 0 {
-        return false;
-    }
-    d - 1 == clock.last
+    d != 0 && d - 1 == clock.last
 }
 
-// What is open is cut where b holds.
+// What is open is cut where b holds: a flag, as in the definition of that name.
 pub(crate) fn cut_if(b: bool, s: Snapshot) -> Snapshot
     ensures { result ≡ cut_if b s }
 {
     Snapshot {
-        first: s.first,
-        held: s.held,
-        last_type: s.last_type,
         cut: ((s.held != 0) & b) | s.cut,
+        ..s
     }
 }
 

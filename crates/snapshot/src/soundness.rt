@@ -13,20 +13,14 @@ fn packets_among(s: Snapshot) -> bool
     s.held < PACKET_MARKS
 }
 
-#[tactic(auto, unfolding(crate::specs::Soundness::last_highest, prelude::specs::Marks::highest))]
+#[tactic(auto, using(crate::proofs::Facts::type_above), unfolding(crate::specs::Soundness::last_highest, prelude::specs::Marks::highest))]
 fn last_highest(s: Snapshot) -> bool
     ensures { result ≡ last_highest s }
 {
-    if s.held == 0 {
-        return true;
-    }
-    if s.last_type < FIRST {
-        return false;
-    }
-    if 31 < s.last_type - FIRST {
-        return false;
-    }
-    s.held >> (s.last_type - FIRST) == 1
+    s.held == 0
+        || (FIRST <= s.last_type
+            && s.last_type - FIRST <= 31
+            && s.held >> (s.last_type - FIRST) == 1)
 }
 
 #[tactic(auto, unfolding(crate::specs::Soundness::first_fits))]
@@ -43,7 +37,7 @@ fn none_open(s: Snapshot) -> bool
     (s.held != 0) | ((s.first == 0) & ((s.last_type == 0) & !s.cut))
 }
 
-// Does the snapshot pass its part of the list, with this clock?
+// Does the snapshot pass its part of the list, with this clock? It comes beside: it is another part of the state.
 #[tactic(auto, unfolding(crate::specs::Soundness::snapshot_sound))]
 pub fn is_sound(clock: Clock, s: Snapshot) -> bool
     ensures { result ≡ snapshot_sound clock s }

@@ -1,6 +1,6 @@
 // What a record's burst packets make of the open snapshot, and what it reports when it closes (02, request 2).
 ghost use Rattle.std.specs.Prelude.{true, ◌≡◌, ◌^◌, ◌<◌};
-ghost use Rattle.snapshot.specs.Snapshot.{no_snapshot, unreported, reported, packet_work, is_part, lays, passes, extends, renews, step_packet, together};
+ghost use Rattle.snapshot.specs.Snapshot.{no_snapshot, reported, packet_work, is_part, lays, passes, extends, renews, step_packet, together};
 ghost use Rattle.snapshot.specs.Place.{leaves, stepped_at};
 ghost use Rattle.snapshot.specs.Inner.Passing.{passes_by};
 
@@ -23,39 +23,28 @@ pub fn no_snapshot() -> Snapshot
     }
 }
 
-// The report where no snapshot closes.
-pub fn unreported() -> SnapshotReport
-    ensures { result ≡ unreported }
-{
-    SnapshotReport {
-        closed: false,
-        first: 0,
-        held: 0,
-    }
-}
-
 // What closing a snapshot reports: nothing where none is open.
-pub fn report(s: Snapshot) -> SnapshotReport
+pub fn report(s: Snapshot) -> Option<SnapshotReport>
     ensures { result ≡ reported s }
 {
     if s.held == 0 {
-        return unreported();
+        return None;
     }
-    SnapshotReport {
-        closed: true,
+    Some(SnapshotReport {
         first: s.first,
         held: s.held,
-    }
+    })
 }
 
 // The work that lays nothing.
 pub fn no_packet_work(work: Work) -> PacketWork
     ensures { result ≡ packet_work work 0 }
 {
-    PacketWork { work: work, at: 0 }
+    PacketWork { work, at: 0 }
 }
 
-// Where the bytes of a packet of types 36 to 55 go, with what is done before that.
+// Where the bytes of a packet of types 36 to 55 go, with what is done before that. Three private functions ask for `is_part`, each called once
+// behind the test (`step_packet`): a type for it would be one more name. Flags, as in the definition (`lays`).
 #[tactic(auto, using(crate::proofs::Facts::part_from))]
 fn laying(code: u8, copies: bool, clears: bool) -> PacketWork
     requires { is_part code ≡ true }
@@ -63,8 +52,8 @@ fn laying(code: u8, copies: bool, clears: bool) -> PacketWork
 {
     PacketWork {
         work: Work {
-            copies: copies,
-            clears: clears,
+            copies,
+            clears,
             lays: true,
         },
         at: Record::BURST_SIZE * (code % 64 - FIRST) as usize,
@@ -77,7 +66,7 @@ fn pass(s: Snapshot, code: u8) -> PacketStep
 {
     PacketStep {
         next: cut_if(cuts(code), s),
-        report: unreported(),
+        report: None,
         work: no_packet_work(no_work()),
     }
 }
@@ -95,7 +84,7 @@ fn extend(s: Snapshot, code: u8) -> PacketStep
             last_type: code % 64,
             cut: false,
         },
-        report: unreported(),
+        report: None,
         work: laying(code, false, false),
     }
 }
@@ -118,7 +107,8 @@ fn renew(s: Snapshot, d: u64, code: u8) -> PacketStep
     }
 }
 
-// One packet of a record at count d, by its type byte; 0 is no packet's.
+// One packet of a record at count d, by its type byte; 0 is no packet's. Both come beside the snapshot: a struct of the two would be made for
+// this one call.
 #[tactic(auto, unfolding(crate::specs::Snapshot::step_packet))]
 fn step_packet(s: Snapshot, d: u64, code: u8) -> PacketStep
     requires { s.held < 2 ^ 21 }
@@ -137,26 +127,12 @@ fn step_packet(s: Snapshot, d: u64, code: u8) -> PacketStep
 fn both(x: PacketStep, y: PacketStep) -> SnapshotStep
     ensures { result ≡ together x y }
 {
-    let one = x.work;
-    let two = y.work;
-    let next = y.next;
-    let first = x.report;
-    let second = y.report;
-    if first.closed {
-        return SnapshotStep {
-            next: next,
-            first: first,
-            second: second,
-            one: one,
-            two: two,
-        };
-    }
     SnapshotStep {
-        next: next,
-        first: second,
-        second: unreported(),
-        one: one,
-        two: two,
+        next: y.next,
+        first: x.report.or(y.report),
+        second: x.report.and(y.report),
+        one: x.work,
+        two: y.work,
     }
 }
 
@@ -174,21 +150,19 @@ fn still(s: Snapshot) -> SnapshotStep
 {
     SnapshotStep {
         next: s,
-        first: unreported(),
-        second: unreported(),
+        first: None,
+        second: None,
         one: no_packet_work(no_work()),
         two: no_packet_work(no_work()),
     }
 }
 
 // A record at count d after the clock, with the type bytes of its two packets, 0 for one that it hasn't.
+#[tactic(auto, using(crate::proofs::Facts::next_below))]
 pub fn step(clock: Clock, s: Snapshot, d: u64, one: u8, two: u8) -> SnapshotStep
     ensures { result ≡ stepped_at clock s d one two }
 {
-    if passes_by(s, one, two) {
-        return still(s);
-    }
-    if PACKET_MARKS <= s.held {
+    if passes_by(s, one, two) || PACKET_MARKS <= s.held {
         return still(s);
     }
     let x = step_packet(cut_if(!follows(clock, d), s), d, one);

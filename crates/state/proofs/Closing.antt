@@ -1,4 +1,4 @@
--- An open buffer is copied to the finished one just when something is reported as closed; what isn't closed is all 0.
+-- An open buffer is copied to the finished one just when something is reported as closed; what isn't closed isn't reported.
 -- Assumes nothing.
 use mathlib.Core.Path.{◌≡◌, sym, ap, ◌∙◌}
 use native.Mathlib.Omega.{arith}
@@ -7,7 +7,9 @@ use Prim.Native.Nat.{ℕ}
 use lib.Dec.{eqb}
 use borrow.Author.Tests.{eqb-true, eqb-false}
 use borrow.Author.Rules.{rules}
+use Rattle.std.specs.Prelude.{Result, Ok, Err}
 use Rattle.prelude.proofs.Conds.{cases, two}
+use Rattle.record.specs.declared.refusal.Refusal.{Refusal}
 use Rattle.accumulation.specs.Accumulation.{is_open, clears_for, lays_for}
 use Rattle.accumulation.specs.declared.GapDecision.{GapDecision}
 use Rattle.accumulation.specs.declared.GapDecision.TheVariants.{Neither}
@@ -28,11 +30,8 @@ use Rattle.state.specs.Ending.{ending, unended, ended_of}
 use Rattle.state.specs.declared.State.{State}
 use Rattle.state.specs.declared.closed.Closed.{Closed}
 use Rattle.state.specs.declared.closed.Works.{Works}
-use Rattle.state.specs.declared.deciding.Answer.{Answer}
-use Rattle.state.specs.declared.deciding.Answer.TheVariants.{Refused, Accepted}
 use Rattle.state.specs.declared.deciding.Decided.{Decided}
 use Rattle.state.specs.declared.deciding.Taken.{Taken}
-use Rattle.state.specs.declared.ending.Ending.TheVariants.{Done}
 use Rattle.state.proofs.Keeping.{ended_sound}
 use Rattle.state.proofs.Decisions.{accepted_is, refused_is}
 
@@ -90,18 +89,18 @@ end_clears s sized = go (sized && sound s)
 -- once finished nothing is open: a second finish is done too, changes nothing and closes nothing
 pub second_end : (s : State) (sized : Bool) → Sound s → (sized && sound s) ≡ true
     → ended_of (ended_of s sized).finished.state sized
-    ≡ record { finished = record { ending = Done; state = (ended_of s sized).finished.state; closed = nothing_closed }; works = no_works }
+    ≡ record { finished = record { ending = Ok tt; state = (ended_of s sized).finished.state; closed = nothing_closed }; works = no_works }
 unfolding ended_of
 second_end s sized h e =
     let k : (sized && sound (ending s).finished.state) ≡ true = rw (two sized (sound s) e).0 (ended_sound s h).passes in
     rw (e, k)
 
-abbrev taken_gap : Answer → GapDecision
-taken_gap (Refused n) = Neither
-taken_gap (Accepted t) = t.gap
+abbrev taken_gap : Result Taken Refusal → GapDecision
+taken_gap (Err n) = Neither
+taken_gap (Ok t) = t.gap
 
 -- what is done to the cells goes by the gap decision
-pub cells_by_gap : (i : Input) (t : Taken) → (decided_of i).stepped.answer ≡ Accepted t
+pub cells_by_gap : (i : Input) (t : Taken) → (decided_of i).stepped.answer ≡ Ok t
     → ((decided_of i).works.cells.clears ≡ clears_for t.gap) × ((decided_of i).works.cells.lays ≡ lays_for t.gap)
 unfolding acceptance
 cells_by_gap i t e =

@@ -1,11 +1,12 @@
 -- What a record decides, from the state, the buffers' sizes and the record alone (01, "Joining accumulations", "Numbers a refused
 -- record gets"; 02, requests 1 and 2).
 -- Assumes nothing.
-use Rattle.std.specs.Prelude.{ℕ, Bool, cond, ◌&&◌, List, [], ◌∷◌, ◌++◌, ◌≡◌, eqb}
+use Rattle.std.specs.Prelude.{ℕ, Bool, cond, ◌&&◌, List, [], ◌∷◌, ◌++◌, ◌≡◌, eqb, Ok, Err}
 use Rattle.prelude.specs.Rules.{Rule, rule, of_part, first_broken}
 use Rattle.record.specs.Layout.{packet_bytes, mag_bytes}
 use Rattle.record.specs.Frame.{carries_mag, carries_science, first_burst}
-use Rattle.record.specs.Rules.{rules}
+use Rattle.record.specs.Refusals.{numbered}
+use Rattle.record.specs.Rules.{rules, refused_number}
 use Rattle.record.specs.Contents.{record_of}
 use Rattle.record.specs.declared.Record.{Record}
 use Rattle.mag.specs.Samples.{range}
@@ -19,8 +20,6 @@ use Rattle.snapshot.specs.declared.SnapshotStep.{SnapshotStep}
 use Rattle.state.specs.Soundness.{sound}
 use Rattle.state.specs.Closed.{nothing_closed, no_works}
 use Rattle.state.specs.declared.State.{State}
-use Rattle.state.specs.declared.deciding.Answer.{Answer}
-use Rattle.state.specs.declared.deciding.Answer.TheVariants.{Refused, Accepted}
 use Rattle.state.specs.declared.deciding.Decided.{Decided}
 
 -- what a call is handed: the state, whether all lent buffers are of their size, and the record's bytes
@@ -62,7 +61,7 @@ number_of i = first_broken reader_rules i
 
 -- "Each returns its number only; state and all four buffers stay as found", and so do the three that 02 adds
 abbrev pub refusal : State → ℕ → Decided
-refusal s n = record { stepped = record { answer = Refused n; state = s; closed = nothing_closed }; works = no_works }
+refusal s n = record { stepped = record { answer = Err (numbered n); state = s; closed = nothing_closed }; works = no_works }
 
 -- a record that no rule refuses, at full count d: its part in the accumulation, in the major frame, and in the snapshot
 abbrev pub in_accumulation : State → Record → ℕ → AccumulationStep
@@ -77,7 +76,7 @@ in_snapshot s f d = step_snapshot s.clock s.snapshot d (first_burst f.kind f.fra
 unfoldable pub acceptance : State → Record → ℕ → ℕ → Decided
 acceptance s f d range = record {
   stepped = record {
-    answer = Accepted (record { fields = f; gap = (in_accumulation s f d).gap });
+    answer = Ok (record { fields = f; gap = (in_accumulation s f d).gap });
     state = record {
       clock = accepted d;
       accumulation = (in_accumulation s f d).next;
@@ -107,12 +106,7 @@ decided_as i n = cond (eqb n 0) (acceptance i.state (fields_of i) (count_at i) (
 unfoldable pub decided_of : Input → Decided
 decided_of i = decided_as i (number_of i)
 
--- the number of each case
-unfoldable pub answer_number : Answer → ℕ
-answer_number (Refused n) = n
-answer_number (Accepted t) = 0
-
 -- one decision; and its number, which follows
 pub record DecidedIs (s : State) (sized : Bool) (r : List ℕ) (x : Decided) : Type 0 where
   pub is : x ≡ decided_of (record { state = s; sized = sized; bytes = r })
-  pub number : answer_number x.stepped.answer ≡ number_of (record { state = s; sized = sized; bytes = r })
+  pub number : refused_number x.stepped.answer ≡ number_of (record { state = s; sized = sized; bytes = r })

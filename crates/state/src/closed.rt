@@ -4,16 +4,16 @@ ghost use Rattle.state.specs.Closed.{nothing_closed, no_works};
 
 use accumulation::AccumulationReport;
 use buffers::{Work, no_work};
-use major::{MajorReport, SlotWork};
+use major::{Major, SlotWork};
 use snapshot::{PacketWork, SnapshotReport};
 
 // One call may close all; the major frame is reported first, then the accumulation, then the snapshots, of which it may close two.
-#[derive(Clone, Copy)]
+#[derive(Clone, Copy, Debug, PartialEq, Eq)]
 pub struct Closed {
-    pub major: MajorReport,
-    pub accumulation: AccumulationReport,
-    pub first_snapshot: SnapshotReport,
-    pub second_snapshot: SnapshotReport,
+    pub major: Option<Major>,
+    pub accumulation: Option<AccumulationReport>,
+    pub first_snapshot: Option<SnapshotReport>,
+    pub second_snapshot: Option<SnapshotReport>,
 }
 
 // What is done to the samples, to the cells, and to the snapshot's bytes for each of two packets.
@@ -29,10 +29,10 @@ pub fn nothing_closed() -> Closed
     ensures { result ≡ nothing_closed }
 {
     Closed {
-        major: major::unreported(),
-        accumulation: accumulation::unreported(),
-        first_snapshot: snapshot::unreported(),
-        second_snapshot: snapshot::unreported(),
+        major: None,
+        accumulation: None,
+        first_snapshot: None,
+        second_snapshot: None,
     }
 }
 

@@ -4,15 +4,14 @@ ghost use Rattle.std.specs.Prelude.{true, ◌≡◌, ◌<◌, length};
 ghost use Rattle.record.specs.Layout.{size, packet_bytes, mag_bytes};
 ghost use Rattle.mag.specs.Samples.{range};
 ghost use Rattle.state.specs.Soundness.{sound};
-ghost use Rattle.state.specs.Deciding.{refusal, acceptance, DecidedIs};
-ghost use Rattle.state.specs.Inner.Accepting.{decided_by, Ready};
+ghost use Rattle.state.specs.Deciding.{acceptance, DecidedIs};
+ghost use Rattle.state.specs.Inner.Accepting.{refused_with, admitted_of, Ready};
 
 use crate::closed::{Closed, Works, no_works, nothing_closed};
 use crate::{State, is_sound};
 use accumulation::{Accumulation, GapDecision};
-use clock::{Arrival, Clock};
-use mag::Unpacked;
-use record::{Contents, Record};
+use clock::Clock;
+use record::{Record, Refusal};
 
 // An accepted record: its fields, among them its kind, and the gap decision.
 #[derive(Clone, Copy)]
@@ -21,16 +20,10 @@ pub struct Taken {
     pub gap: GapDecision,
 }
 
-#[derive(Clone, Copy)]
-pub enum Answer {
-    Refused(u8),
-    Accepted(Taken),
-}
-
 // The answer to a record, the state after it, and what it closed.
 #[derive(Clone, Copy)]
 pub struct Stepped {
-    pub answer: Answer,
+    pub answer: Result<Taken, Refusal>,
     pub state: State,
     pub closed: Closed,
 }
@@ -42,26 +35,22 @@ pub struct Decided {
     pub works: Works,
 }
 
-// The range of a record's MAG bytes.
+// The range of a record's MAG bytes: a number and no option, since of 472 bytes there is one (`range`, mag/Samples).
 fn range_in(r: &[u8]) -> u8
     requires { length r.now ≡ size }
     ensures { result ≡ range (mag_bytes (packet_bytes r.now)) }
 {
-    let range = mag::range_of(record::mag_bytes(record::packet_in(r)));
-    match range {
-        Unpacked::Range(n) => n,
-        Unpacked::NoSuchPlace => 0,
-    }
+    mag::range_of(record::mag_bytes(record::packet_in(r))).unwrap_or(0)
 }
 
-// A refusal of number n: the state as it was, nothing closed, nothing done.
-fn refused(state: State, n: u8) -> Decided
-    ensures { result ≡ refusal state n }
+// A refusal: the state as it was, nothing closed, nothing done.
+fn refused(state: State, refusal: Refusal) -> Decided
+    ensures { result ≡ refused_with state refusal }
 {
     Decided {
         stepped: Stepped {
-            answer: Answer::Refused(n),
-            state: state,
+            answer: Err(refusal),
+            state,
             closed: nothing_closed(),
         },
         works: no_works(),
@@ -75,82 +64,65 @@ fn accept(state: State, f: Record, d: u64, range: u8) -> Decided
     ensures { result ≡ acceptance state f d range }
 {
     let kind = f.kind;
-    let science = record::carries_science(kind);
-    let mag = record::carries_mag(kind);
+    let science = kind.carries_science();
+    let mag = kind.carries_mag().then_some(range);
     let cells = accumulation::step(state.accumulation, science, f.frame_type, d);
-    let samples = major::step(state.major, d, mag, range, f.subcom);
+    let samples = major::step(state.major, d, mag, f.subcom);
     let one = record::first_burst(kind, f.frame_code);
     let bursts = snapshot::step(state.clock, state.snapshot, d, one, f.second_code);
-    let gap = cells.gap;
-    let taken = Taken {
-        fields: f,
-        gap: gap,
-    };
-    let answer = Answer::Accepted(taken);
-    let accumulation = cells.next;
-    let major = samples.next;
-    let snapshot = bursts.next;
-    let next = State {
-        clock: clock::accepted(d),
-        accumulation: accumulation,
-        major: major,
-        snapshot: snapshot,
-    };
-    let major = samples.report;
-    let accumulation = cells.report;
-    let first = bursts.first;
-    let second = bursts.second;
-    let samples = samples.work;
-    let cells = cells.work;
-    let one = bursts.one;
-    let two = bursts.two;
     Decided {
         stepped: Stepped {
-            answer: answer,
-            state: next,
+            answer: Ok(Taken {
+                fields: f,
+                gap: cells.gap,
+            }),
+            state: State {
+                clock: clock::accepted(d),
+                accumulation: cells.next,
+                major: samples.next,
+                snapshot: bursts.next,
+            },
             closed: Closed {
-                major: major,
-                accumulation: accumulation,
-                first_snapshot: first,
-                second_snapshot: second,
+                major: samples.report,
+                accumulation: cells.report,
+                first_snapshot: bursts.first,
+                second_snapshot: bursts.second,
             },
         },
         works: Works {
-            samples: samples,
-            cells: cells,
-            one: one,
-            two: two,
+            samples: samples.work,
+            cells: cells.work,
+            one: bursts.one,
+            two: bursts.two,
         },
     }
 }
 
-// A record that passes rules 1 to 11: rules 12 and 14.
-fn decide_by(state: State, f: Record, range: u8) -> Decided
-    requires { (sound state ≡ true) × (f.frame_type < 64) }
-    ensures { result ≡ decided_by state f range }
-{
-    let arrival = clock::arrival_of(state.clock, f.count);
-    match arrival {
-        Arrival::At(d) => accept(state, f, d, range),
-        Arrival::NotLater => refused(state, 12),
-        Arrival::PastTurns => refused(state, 14),
-    }
+// A record that no rule refuses: its fields, and the full count at which it stands.
+#[derive(Clone, Copy)]
+struct Admitted {
+    fields: Record,
+    count: u64,
 }
 
-// Rules 1 to 11, in their order.
+// Rules 1 to 12 and 14, in their order.
+fn admit(state: State, sized: bool, r: &[u8]) -> Result<Admitted, Refusal>
+    ensures { result ≡ admitted_of (record { state = state; sized = sized; bytes = r.now }) }
+{
+    if !sized || !is_sound(state) {
+        return Err(Refusal::BufferOrState);
+    }
+    let fields = record::fields(r)?;
+    let count = clock::arrival_of(state.clock, fields.count)?;
+    Ok(Admitted { fields, count })
+}
+
 fn decide_on(state: State, sized: bool, r: &[u8]) -> Decided
     ensures { DecidedIs state sized r.now result }
 {
-    if !sized {
-        return refused(state, 1);
-    }
-    if !is_sound(state) {
-        return refused(state, 1);
-    }
-    let contents = record::fields(r);
-    match contents {
-        Contents::Fields(f) => decide_by(state, f, range_in(r)),
-        Contents::Refused(n) => refused(state, n),
+    match admit(state, sized, r) {
+        Ok(x) => accept(state, x.fields, x.count, range_in(r)),
+        Err(refusal) => refused(state, refusal),
     }
 }
 
@@ -175,12 +147,12 @@ fn from_fields(state: State) -> State
             last_count: a.last_count,
             others: a.others,
         },
-        major: major,
-        snapshot: snapshot,
+        major,
+        snapshot,
     }
 }
 
-// `sized`: whether all lent buffers are of their size.
+// `sized`: whether all lent buffers are of their size. A flag: `DecidedIs` speaks of it, and no buffer is known here.
 pub fn decide(state: State, sized: bool, r: &[u8]) -> Decided
     ensures { DecidedIs state sized r.now result }
 {

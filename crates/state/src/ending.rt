@@ -5,17 +5,13 @@ ghost use Rattle.state.specs.Ending.{unended, EndedIs};
 use crate::closed::{Closed, Works, no_works, nothing_closed};
 use crate::{State, is_sound};
 use buffers::{closing_work, no_work};
+use record::Refusal;
 
-#[derive(Clone, Copy)]
-pub enum Ending {
-    Refused(u8),
-    Done,
-}
-
-// The answer, the state after it, and what it closed.
+// The answer, the state after it, and what it closed. As `Stepped` but for the answer, which has no record: the statements on finish speak of
+// `ending` (`EndedIs`, `finish_untouched`).
 #[derive(Clone, Copy)]
 pub struct Finished {
-    pub ending: Ending,
+    pub ending: Result<(), Refusal>,
     pub state: State,
     pub closed: Closed,
 }
@@ -27,38 +23,38 @@ pub struct Ended {
     pub works: Works,
 }
 
+#[tactic(auto, unfolding(record::specs::Refusals::numbered, record::specs::Refusals::table))]
 fn not_ended(state: State) -> Ended
     ensures { result ≡ unended state }
 {
     Ended {
         finished: Finished {
-            ending: Ending::Refused(1),
-            state: state,
+            ending: Err(Refusal::BufferOrState),
+            state,
             closed: nothing_closed(),
         },
         works: no_works(),
     }
 }
 
-// `sized`: whether all lent buffers are of their size.
+// `sized`: whether all lent buffers are of their size. A flag: `EndedIs` speaks of it, and no buffer is known here.
 pub fn end(state: State, sized: bool) -> Ended
     ensures { EndedIs state sized result }
 {
-    if !sized {
+    if !sized || !is_sound(state) {
         return not_ended(state);
     }
-    if !is_sound(state) {
-        return not_ended(state);
-    }
-    let a = state.accumulation;
-    let m = state.major;
-    let s = state.snapshot;
-    let clock = state.clock;
+    let State {
+        clock,
+        accumulation: a,
+        major: m,
+        snapshot: s,
+    } = state;
     Ended {
         finished: Finished {
-            ending: Ending::Done,
+            ending: Ok(()),
             state: State {
-                clock: clock,
+                clock,
                 accumulation: accumulation::no_accumulation(),
                 major: major::no_major(),
                 snapshot: snapshot::no_snapshot(),
@@ -67,7 +63,7 @@ pub fn end(state: State, sized: bool) -> Ended
                 major: major::report(m),
                 accumulation: accumulation::report(a),
                 first_snapshot: snapshot::report(s),
-                second_snapshot: snapshot::unreported(),
+                second_snapshot: None,
             },
         },
         works: Works {

@@ -12,13 +12,13 @@ mod ending;
 use accumulation::Accumulation;
 use clock::Clock;
 pub use closed::{Closed, Works, nothing_closed};
-pub use deciding::{Answer, Decided, Stepped, Taken, decide};
-pub use ending::{Ended, Ending, Finished, end};
+pub use deciding::{Decided, Stepped, Taken, decide};
+pub use ending::{Ended, Finished, end};
 use major::Major;
 use snapshot::Snapshot;
 
 // Clock, open accumulation, open major frame, open snapshot. Fresh is all 0.
-#[derive(Clone, Copy)]
+#[derive(Clone, Copy, Debug, PartialEq, Eq)]
 pub struct State {
     pub clock: Clock,
     pub accumulation: Accumulation,
@@ -42,12 +42,8 @@ pub fn fresh() -> State
 pub fn is_sound(state: State) -> bool
     ensures { result ≡ sound state }
 {
-    if !major::is_sound(state.clock, state.major) {
-        return false;
-    }
-    if !clock::is_sound(state.clock) {
-        return false;
-    }
-    accumulation::is_sound(state.clock, state.accumulation)
-        & snapshot::is_sound(state.clock, state.snapshot)
+    major::is_sound(state.clock, state.major)
+        && clock::is_sound(state.clock)
+        && (accumulation::is_sound(state.clock, state.accumulation)
+            & snapshot::is_sound(state.clock, state.snapshot))
 }

@@ -6,11 +6,13 @@ use mathlib.Core.Bool.{Bool, true, false, cond}
 use mathlib.Core.List.{List, [], ◌∷◌, ◌++◌}
 use Prim.Native.Nat.{ℕ, ◌*◌, ◌<◌}
 use native.Mathlib.Omega.{arith}
+use Rattle.std.specs.Prelude.{Some, None, Ok}
 use lib.IntN.{ℤ, pos}
 use lib.ListN.{length, replicate}
 use Rattle.buffers.specs.Laying.{patch}
 use Rattle.record.specs.Layout.{packet_bytes, frame_code, mag_bytes, science_bytes}
 use Rattle.record.specs.Contents.{record_of}
+use Rattle.record.specs.Rules.{refused_number}
 use Rattle.record.specs.Frame.{carries_science}
 use Rattle.record.specs.declared.frame.Kind.{Kind}
 use Rattle.record.proofs.Types.{science_real}
@@ -18,19 +20,17 @@ use Rattle.clock.specs.Clock.{dated}
 use Rattle.mag.specs.Samples.{samples_size, range, samples}
 use Rattle.bursts.specs.Bursts.{snapshot_size}
 use Rattle.cells.specs.Laying.{cells_size, laid_frame}
-use Rattle.accumulation.specs.Accumulation.{is_open, joins, joined, started, passed, unreported, reported}
+use Rattle.accumulation.specs.Accumulation.{is_open, joins, joined, started, passed, reported}
 use Rattle.accumulation.specs.Accumulation.{passes, extends, renews, step_accumulation}
-use Rattle.major.specs.Major.{major_samples, slot_of, major_open, no_major, continues, into, major_unreported, major_reported, stays, major_renews, step_major}
-use Rattle.state.specs.Deciding.{number_of, refusal, acceptance, decided_of, answer_number}
+use Rattle.major.specs.Major.{major_samples, slot_of, major_open, no_major, continues, into, major_reported, stays, major_renews, step_major}
+use Rattle.state.specs.Deciding.{number_of, refusal, acceptance, decided_of}
 use Rattle.state.specs.declared.State.{State}
 use Rattle.accumulation.specs.declared.Accumulation.{Accumulation}
 use Rattle.accumulation.specs.declared.AccumulationReport.{AccumulationReport}
 use Rattle.accumulation.specs.declared.AccumulationStep.{AccumulationStep}
 use Rattle.accumulation.specs.declared.GapDecision.TheVariants.{Joins}
-use Rattle.state.specs.declared.deciding.Answer.TheVariants.{Accepted}
 use Rattle.state.specs.declared.deciding.Decided.{Decided}
 use Rattle.major.specs.declared.Major.{Major}
-use Rattle.major.specs.declared.MajorReport.{MajorReport}
 use Rattle.major.specs.declared.MajorStep.{MajorStep}
 use Rattle.state.proofs.Decisions.{accepted_is, refused_is}
 use Rattle.reader.specs.Buffers.{Buffers, copied_by, cells_after, samples_after, worked}
@@ -60,7 +60,7 @@ no_bytes = replicate snapshot_size 0
 
 -- what is open is handed out when it closes
 unfoldable pub closing : Accumulation → List ℕ → List ClosedAccumulation
-closing a c = cond (is_open a) (record { report = record { closed = true; first = a.first; held = a.held }; cells = c } ∷ []) []
+closing a c = cond (is_open a) (record { report = record { first = a.first; held = a.held }; cells = c } ∷ []) []
 
 unfoldable pub major_closing : Major → List ℤ → List ClosedMajor
 major_closing m s = cond (major_open m) (record { frame = m; samples = s } ∷ []) []
@@ -107,31 +107,28 @@ unfolding called
 call_is s b r x e = ap (call_of b r) e
 
 -- a refused record
-pub refused_call : (s : State) (b : Buffers) (r : List ℕ) → 0 < answer_number (called s b r).result.answer
+pub refused_call : (s : State) (b : Buffers) (r : List ℕ) → 0 < refused_number (called s b r).result.answer
     → called s b r ≡ record { result = (refusal s (number_of (input s b r))).stepped; left = b }
 unfolding called
 refused_call s b r h = call_is s b r _ (refused_is (input s b r) (λ z. omega (arith, answered (input s b r))))
 
 -- what closes is handed out with the open buffer as it was
-abbrev reported_by : Bool → Accumulation → AccumulationReport
-reported_by t a = cond t (record { closed = true; first = a.first; held = a.held }) unreported
+abbrev report_of : Accumulation → AccumulationReport
+report_of a = record { first = a.first; held = a.held }
 
 pub cells_out : (a : Accumulation) (c d : List ℕ) → handed_accumulation (reported a) (copied_by (is_open a) c d) ≡ closing a c
 unfolding closing
 cells_out a c d = go (is_open a)
   where
-    go : (t : Bool) → handed_accumulation (reported_by t a) (copied_by t c d) ≡ cond t (record { report = reported_by true a; cells = c } ∷ []) []
+    go : (t : Bool) → handed_accumulation (cond t (Some (report_of a)) None) (copied_by t c d) ≡ cond t (record { report = report_of a; cells = c } ∷ []) []
     go true = refl
     go false = refl
-
-abbrev major_by : Bool → Major → MajorReport
-major_by t m = cond t (record { closed = true; frame = m }) major_unreported
 
 pub samples_out : (m : Major) (c d : List ℤ) → handed_major (major_reported m) (copied_by (major_open m) c d) ≡ major_closing m c
 unfolding major_closing
 samples_out m c d = go (major_open m)
   where
-    go : (t : Bool) → handed_major (major_by t m) (copied_by t c d) ≡ cond t (record { frame = m; samples = c } ∷ []) []
+    go : (t : Bool) → handed_major (cond t (Some m) None) (copied_by t c d) ≡ cond t (record { frame = m; samples = c } ∷ []) []
     go true = refl
     go false = refl
 
@@ -157,7 +154,7 @@ module _ (s : State) (b : Buffers) (x : Kept) (e : number_of (input s b x.bytes)
   opening r j = rw (is_taken, carries r, j)
 
   pub joining : real_time x.bytes ≡ true → joins s.accumulation (type_of x) (at x) ≡ true
-      → (called s b x.bytes).result.answer ≡ Accepted (record { fields = record_of x.bytes; gap = Joins })
+      → (called s b x.bytes).result.answer ≡ Ok (record { fields = record_of x.bytes; gap = Joins })
   unfolding acceptance step_accumulation
   joining r j = rw (is_taken, carries r, j)
 

@@ -20,7 +20,6 @@ use Rattle.record.specs.Rules.{rules, broken, size_holds, sync_holds, spacecraft
 use Rattle.record.specs.Rules.{status_spare_holds, flags_hold, type_holds}
 use Rattle.record.specs.Contents.{record_of}
 use Rattle.record.specs.Frame.{is_real_time}
-use Rattle.major.specs.Major.{major_samples}
 use Rattle.reader.specs.Buffers.{Buffers, buffers, sized}
 use Rattle.reader.proofs.Lengths.{Sizes, is_sized}
 use Rattle.stream.specs.Sending.{sent_count, real_time, SentAt}

@@ -16,7 +16,7 @@ use Rattle.buffers.proofs.Patches.{length_patch}
 use Rattle.record.specs.Layout.{packet_bytes, frame_code, mag_bytes, science_bytes}
 use Rattle.record.specs.Parts.{burst_bytes}
 use Rattle.record.proofs.Types.{burst_short}
-use Rattle.record.specs.Rules.{broken}
+use Rattle.record.specs.Rules.{broken, refused_number}
 use Rattle.record.specs.Contents.{record_of}
 use Rattle.record.proofs.Opened as opened
 use Rattle.mag.specs.Samples.{samples_size, samples}
@@ -29,7 +29,7 @@ use Rattle.clock.proofs.Laws.{Follows, stands}
 use Rattle.major.specs.Major.{major_samples}
 use Rattle.major.specs.declared.SlotWork.{SlotWork}
 use Rattle.state.specs.Soundness.{sound, fresh}
-use Rattle.state.specs.Deciding.{state_holds, clock_holds, turn_holds, number_of, decided_of, answer_number}
+use Rattle.state.specs.Deciding.{state_holds, clock_holds, turn_holds, number_of, decided_of}
 use Rattle.state.specs.Ending.{ended_of}
 use Rattle.state.specs.Keeping.{Sound}
 use Rattle.state.specs.declared.State.{State}
@@ -143,7 +143,7 @@ pub record Parts (ks : List Kept) (xs : List Fate) (s : State) (b : Buffers) : T
   pub samples : majors (run s b (fed xs)) ≡ collect s.major b.open_samples ks
   pub bytes : (n : ℕ) → snapshots (run s b (fed xs)) ≡ snap s.clock.last s.snapshot b.open_snapshot (events_from n ks)
 
-is_accepted : (s : State) (b : Buffers) (r : List ℕ) → number_of (input s b r) ≡ 0 → answer_number (called s b r).result.answer ≡ 0
+is_accepted : (s : State) (b : Buffers) (r : List ℕ) → number_of (input s b r) ≡ 0 → refused_number (called s b r).result.answer ≡ 0
 unfolding called
 is_accepted s b r e = answered (input s b r) ∙ e
 

@@ -2,11 +2,12 @@
 -- breaks that as they do.
 -- Assumes nothing.
 use mathlib.Core.Path.{◌≡◌, refl, sym, ap, subst, subst⁻¹, ◌∙◌}
-use mathlib.Core.Bool.{Bool, true, false, cond, and-false}
+use mathlib.Core.Bool.{true, false, cond, and-false}
 use mathlib.Core.List.{List, [], ◌∷◌}
 use mathlib.Core.Logic.{⊎_elim}
 use Prim.Native.Nat.{ℕ, ◌*◌, ◌<◌, ◌≤◌}
 use native.Mathlib.Omega.{arith}
+use Rattle.std.specs.Prelude.{Option, Some, None, Result}
 use lib.Dec.{eqb, eqb→eq}
 use lib.ListN.{length, get_or, get_or-replicate}
 use Rattle.prelude.specs.Upto.{both}
@@ -15,6 +16,8 @@ use Rattle.prelude.proofs.Upto.{upto_at}
 use Rattle.prelude.proofs.Every.{every_joined}
 use Rattle.record.specs.Layout.{science_bytes}
 use Rattle.record.specs.Contents.{record_of}
+use Rattle.record.specs.Rules.{refused_number}
+use Rattle.record.specs.declared.refusal.Refusal.{Refusal}
 use Rattle.carriage.specs.Carriage.{cells, byte_of}
 use Rattle.carriage.proofs.EachCell.{once}
 use Rattle.cells.specs.Raw.{holds_cell}
@@ -22,11 +25,11 @@ use Rattle.cells.specs.Laying.{cells_size}
 use Rattle.listing.specs.Lines.{frames_held, cells_held}
 use Rattle.accumulation.specs.Accumulation.{joins, started}
 use Rattle.clock.proofs.Laws.{Follows, follows_none, follows_last}
-use Rattle.state.specs.Deciding.{number_of, answer_number}
+use Rattle.state.specs.Deciding.{number_of}
 use Rattle.state.specs.Soundness.{fresh}
 use Rattle.accumulation.specs.declared.AccumulationReport.{AccumulationReport}
 use Rattle.accumulation.specs.declared.GapDecision.TheVariants.{Joins}
-use Rattle.state.specs.declared.deciding.Answer.{Answer}
+use Rattle.state.specs.declared.deciding.Taken.{Taken}
 use Rattle.state.specs.declared.State.{State}
 use Rattle.state.proofs.Told.{all_pass, passed_size}
 use Rattle.reader.specs.Buffers.{Buffers}
@@ -96,20 +99,20 @@ module _ (R : Reader) (keeps : Keeps R) where
   is_call s b r = only_call s b r (R.steps s b r) (keeps.steps s b r)
 
   -- the reader's answer to a first record
-  number_is : (r : List ℕ) → answer_number (R.steps fresh lent r).result.answer ≡ number_of (input fresh lent r)
+  number_is : (r : List ℕ) → refused_number (R.steps fresh lent r).result.answer ≡ number_of (input fresh lent r)
   unfolding called
-  number_is r = ap (λ x. answer_number x.result.answer) (is_call fresh lent r) ∙ answered (input fresh lent r)
+  number_is r = ap (λ x. refused_number x.result.answer) (is_call fresh lent r) ∙ answered (input fresh lent r)
 
   -- "A reader that refuses everything, and one with a fixed answer, break demand 2's "exactly when""
-  accepted_once : answer_number (R.steps fresh lent (made 100 5)).result.answer ≡ 0
+  accepted_once : refused_number (R.steps fresh lent (made 100 5)).result.answer ≡ 0
   accepted_once = number_is (made 100 5) ∙ first_passes
 
   pub not_refusing : RefusesAll R → ⊥
   not_refusing h = omega (arith, h fresh lent (made 100 5), accepted_once)
 
-  pub not_fixed : (x : Answer) → FixedAnswer R x → ⊥
+  pub not_fixed : (x : Result Taken Refusal) → FixedAnswer R x → ⊥
   not_fixed x h =
-      let e = ap answer_number (h fresh lent [] ∙ sym (h fresh lent (made 100 5))) ∙ accepted_once in
+      let e = ap refused_number (h fresh lent [] ∙ sym (h fresh lent (made 100 5))) ∙ accepted_once in
       let n : number_of (input fresh lent []) ≡ 0 = sym (number_is []) ∙ e in
       let l : length {A = ℕ} [] ≡ 472 = passed_size (input fresh lent []) (all_pass (input fresh lent []) n) in
       omega arith
@@ -148,13 +151,10 @@ unfolding those first second
 real_both = ap reals left_both ∙ rw (real_five 100, real_six 101)
 
 -- what is handed out by one that stores nothing
-out_lent : (r : AccumulationReport) (c d : List ℕ) → c ≡ d → Every (λ a. a.cells ≡ d) (handed_accumulation r c)
+out_lent : (r : Option AccumulationReport) (c d : List ℕ) → c ≡ d → Every (λ a. a.cells ≡ d) (handed_accumulation r c)
 unfolding Every
-out_lent r c d e = go r.closed
-  where
-    go : (t : Bool) → Every (λ (a : ClosedAccumulation). a.cells ≡ d) (cond t (record { report = r; cells = c } ∷ []) [])
-    go true = (e, tt)
-    go false = tt
+out_lent None c d e = tt
+out_lent (Some r) c d e = (e, tt)
 
 all_lent : (R : Reader) → StoresNothing R → (rs : List (List ℕ)) (s : State) (b : Buffers)
     → Every (λ a. a.cells ≡ b.finished_cells) (accumulations (trace_of R s b rs))
@@ -230,7 +230,7 @@ module _ (R : Reader) where
     not_made_up h = omega (arith, cells_one, cells_both, h lent (fed one) (fed pair))
 
     -- "One that handles the first record and then only nods breaks demand 3": its total is that of the first
-    first_accepted : answer_number (R.steps fresh lent (made 100 5)).result.answer ≡ 0
+    first_accepted : refused_number (R.steps fresh lent (made 100 5)).result.answer ≡ 0
     unfolding one fed trace_of KeptAccepted
     first_accepted = (meets one lent 100 5 stream_one).0.accepted.0
 

@@ -33,7 +33,7 @@ cells_from c fs = put_all cells_with c fs
 
 -- an accumulation with these frames, as it is handed out
 unfoldable pub out_of : List Kept → ClosedAccumulation
-out_of g = record { report = record { closed = true; first = first_count g; held = marks_from type_of 0 g }; cells = cells_from no_cells g }
+out_of g = record { report = record { first = first_count g; held = marks_from type_of 0 g }; cells = cells_from no_cells g }
 
 -- an accumulation with these frames while it is open: p its last frame, o other frames since
 abbrev open_with : List Kept → Kept → ℕ → Accumulation

@@ -1,20 +1,18 @@
 -- The trace of a run: the one that the promises of step and finish allow; every state in it keeps the list.
 -- Assumes nothing.
-use mathlib.Core.Path.{◌≡◌, refl, sym, ap, ◌∙◌}
+use mathlib.Core.Path.{◌≡◌, refl, ap, ◌∙◌}
 use mathlib.Core.Bool.{Bool, true, false, cond, ◌&&◌}
 use mathlib.Core.List.{List, [], ◌∷◌}
 use Prim.Native.Nat.{ℕ}
-use lib.Dec.{eqb}
-use borrow.Author.Tests.{eqb-true, eqb-false}
-use Rattle.prelude.proofs.Conds.{cases}
 use Rattle.prelude.specs.Every.{Every}
+use Rattle.record.specs.Refusals.{refusal_number, numbered, table}
+use Rattle.record.specs.Rules.{refused_number}
 use Rattle.state.specs.Soundness.{sound}
-use Rattle.state.specs.Deciding.{Input, number_of, acceptance, decided_of, answer_number}
-use Rattle.state.specs.Ending.{ending, unended, ended_of, end_number, ending_number}
+use Rattle.state.specs.Deciding.{Input, number_of, decided_of}
+use Rattle.state.specs.Ending.{ending, unended, ended_of, end_number}
 use Rattle.state.specs.Keeping.{Sound}
 use Rattle.state.specs.declared.State.{State}
-use Rattle.state.specs.declared.deciding.Decided.{Decided}
-use Rattle.state.proofs.Decisions.{accepted_is, refused_is}
+use Rattle.state.proofs.Decisions.{decided_is}
 use Rattle.state.proofs.Keeping.{step_sound, end_sound}
 use Rattle.reader.specs.Buffers.{Buffers, sized}
 use Rattle.reader.specs.Steps.{input}
@@ -22,18 +20,14 @@ use Rattle.stream.specs.Running.{Call, Reader, Trace, step, finish, trace_of, ca
 use Rattle.stream.specs.Law.{Keeps}
 
 -- the number of a decision is that of its answer
-pub answered : (i : Input) → answer_number (decided_of i).stepped.answer ≡ number_of i
-unfolding answer_number acceptance
-answered i =
-    cases (eqb (number_of i) 0)
-    (λ t. ap (λ x. answer_number x.stepped.answer) (accepted_is i (eqb-true (number_of i) 0 t)) ∙ sym (eqb-true (number_of i) 0 t))
-    (λ t. rw (refused_is i (eqb-false (number_of i) 0 t)))
+pub answered : (i : Input) → refused_number (decided_of i).stepped.answer ≡ number_of i
+answered i = (decided_is i (decided_of i) refl).number
 
-pub finished : (s : State) (size : Bool) → ending_number (ended_of s size).finished.ending ≡ end_number s size
-unfolding ended_of ending_number
+pub finished : (s : State) (size : Bool) → refused_number (ended_of s size).finished.ending ≡ end_number s size
+unfolding ended_of refused_number refusal_number numbered table
 finished s size = go (size && sound s)
   where
-    go : (t : Bool) → ending_number (cond t (ending s) (unended s)).finished.ending ≡ cond t 0 1
+    go : (t : Bool) → refused_number (cond t (ending s) (unended s)).finished.ending ≡ cond t 0 1
     go true = refl
     go false = refl
 

@@ -5,6 +5,8 @@ use mathlib.Core.Bool.{Bool, true, false, cond, not, ◌&&◌, and-false, false�
 use mathlib.Core.List.{List, [], ◌∷◌, ◌++◌, map, append_assoc}
 use Prim.Native.Nat.{ℕ, ◌+◌, ◌≤◌}
 use native.Mathlib.Omega.{arith}
+use Rattle.std.specs.Prelude.{Option, Some, None, is_some}
+use Rattle.std.specs.Option.{option_or, option_and}
 use lib.Dec.{eqb}
 use lib.ListN.{length, length-take, length-drop}
 use Rattle.bursts.specs.Bursts.{burst_size, snapshot_size}
@@ -15,7 +17,7 @@ use Rattle.record.specs.Contents.{record_of}
 use Rattle.record.specs.declared.frame.Kind.{Kind}
 use Rattle.record.proofs.Types.{two_burst, burst_short}
 use Rattle.clock.specs.Clock.{dated}
-use Rattle.snapshot.specs.Snapshot.{is_open, is_part, cuts, follows, cut_if, joins, unreported, reported}
+use Rattle.snapshot.specs.Snapshot.{is_open, is_part, cuts, follows, cut_if, joins, reported}
 use Rattle.snapshot.specs.Snapshot.{step_packet, together, step_snapshot}
 use Rattle.snapshot.specs.declared.Snapshot.{Snapshot}
 use Rattle.snapshot.specs.declared.SnapshotReport.{SnapshotReport}
@@ -28,7 +30,7 @@ use Rattle.reader.specs.Buffers.{Buffers, copied_by, packet_after, first_after, 
 use Rattle.reader.specs.Steps.{input}
 use Rattle.reader.proofs.Lengths.{packet_length}
 use Rattle.gathering.specs.Gathering.{gather}
-use Rattle.stream.specs.Running.{Call, Trace, step, called, ClosedSnapshot, handed_snapshot, snapshots}
+use Rattle.stream.specs.Running.{Call, Trace, step, called, handed_snapshot, snapshots}
 use Rattle.stream.specs.Sending.{Kept}
 use Rattle.stream.specs.Cutting.{at}
 use Rattle.stream.specs.Bursts.{Packet, first_of, second_of, packets_of}
@@ -40,10 +42,10 @@ pub snap_out : (s : Snapshot) (b : List ℕ) → handed_snapshot (reported s) b 
 unfolding snap_closing
 snap_out s b = go (is_open s)
   where
-    some : SnapshotReport
-    some = record { closed = true; first = s.first; held = s.held }
+    held : SnapshotReport
+    held = record { first = s.first; held = s.held }
 
-    go : (t : Bool) → handed_snapshot (cond t some unreported) b ≡ cond t (record { report = some; bytes = b } ∷ []) []
+    go : (t : Bool) → handed_snapshot (cond t (Some held) None) b ≡ cond t (record { report = held; bytes = b } ∷ []) []
     go true = refl
     go false = refl
 
@@ -52,10 +54,10 @@ pub snap_end : (s : Snapshot) (b f : List ℕ) → handed_snapshot (reported s) 
 unfolding snap_closing
 snap_end s b f = go (is_open s)
   where
-    some : SnapshotReport
-    some = record { closed = true; first = s.first; held = s.held }
+    held : SnapshotReport
+    held = record { first = s.first; held = s.held }
 
-    go : (t : Bool) → handed_snapshot (cond t some unreported) (cond t b f) ++ [] ≡ cond t (record { report = some; bytes = b } ∷ []) []
+    go : (t : Bool) → handed_snapshot (cond t (Some held) None) (cond t b f) ++ [] ≡ cond t (record { report = held; bytes = b } ∷ []) []
     go true = refl
     go false = refl
 
@@ -113,16 +115,16 @@ outs_are : (x y : PacketStep) → PacketCloses x.work.work x.report → PacketCl
     → handed_snapshot (together x y).first (cond x.work.work.copies o (copied_by y.work.work.copies a f))
     ++ handed_snapshot (together x y).second (copied_by (x.work.work.copies && y.work.work.copies) a s)
     ≡ handed_snapshot x.report o ++ handed_snapshot y.report a
-outs_are x y p q o a f s = rw (p.copied, q.copied) (go x.report.closed y.report.closed refl refl)
+outs_are x y p q o a f s = rw (p.copied, q.copied) (go x.report y.report)
   where
-    go : (t u : Bool) → x.report.closed ≡ t → y.report.closed ≡ u
-        → handed_snapshot (cond x.report.closed x.report y.report) (cond x.report.closed o (copied_by y.report.closed a f))
-        ++ handed_snapshot (cond x.report.closed y.report unreported) (copied_by (x.report.closed && y.report.closed) a s)
-        ≡ handed_snapshot x.report o ++ handed_snapshot y.report a
-    go true true e g = rw (e, g)
-    go true false e g = rw (e, g)
-    go false true e g = rw (e, g)
-    go false false e g = rw (e, g)
+    go : (t u : Option SnapshotReport)
+        → handed_snapshot (option_or t u) (cond (is_some t) o (copied_by (is_some u) a f))
+        ++ handed_snapshot (option_and t u) (copied_by (is_some t && is_some u) a s)
+        ≡ handed_snapshot t o ++ handed_snapshot u a
+    go (Some t) (Some u) = refl
+    go (Some t) None = refl
+    go None (Some u) = refl
+    go None None = refl
 
 -- the packets of a record, by its kind
 record Meeting (n : ℕ) (x : Kept) : Type 0 where

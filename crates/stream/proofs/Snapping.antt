@@ -34,7 +34,7 @@ unfoldable pub bytes_with : Packet → List ℕ → List ℕ
 bytes_with q b = patch b (burst_size * mark q) q.bytes
 
 unfoldable pub snap_closing : Snapshot → List ℕ → List ClosedSnapshot
-snap_closing s b = cond (is_open s) (record { report = record { closed = true; first = s.first; held = s.held }; bytes = b } ∷ []) []
+snap_closing s b = cond (is_open s) (record { report = record { first = s.first; held = s.held }; bytes = b } ∷ []) []
 
 unfoldable pub takes : Event → Bool
 takes (frame x) = false

@@ -39,7 +39,7 @@ use Rattle.stream.proofs.Snapping.{Event, frame, packet, events_from, bytes_with
 
 -- a snapshot with these packets, as it is handed out
 unfoldable pub snap_of : List Packet → ClosedSnapshot
-snap_of g = record { report = record { closed = true; first = first_brought g; held = marks_from mark 0 g }; bytes = put_all bytes_with no_bytes g }
+snap_of g = record { report = record { first = first_brought g; held = marks_from mark 0 g }; bytes = put_all bytes_with no_bytes g }
 
 held_open : (h : Packet) (t : List Packet) → not (eqb (marks_from mark 0 (h ∷ t)) 0) ≡ true
 unfolding put_all marked

@@ -6,8 +6,8 @@ use mathlib.Core.List.{List, [], ◌∷◌}
 use Prim.Native.Nat.{ℕ, ◌<◌}
 use native.Mathlib.Omega.{arith}
 use borrow.Author.Tests.{ne_eqb}
-use Rattle.record.specs.Rules.{broken}
-use Rattle.state.specs.Deciding.{state_holds, answer_number}
+use Rattle.record.specs.Rules.{broken, refused_number}
+use Rattle.state.specs.Deciding.{state_holds}
 use Rattle.state.specs.declared.State.{State}
 use Rattle.state.proofs.Decisions.{number_is}
 use Rattle.reader.specs.Buffers.{Buffers}
@@ -16,7 +16,7 @@ use Rattle.stream.specs.Running.{called, trace_of, run}
 use Rattle.stream.specs.Sending.{Fate, kept, removed, extra, fed, ExtraRefused, ExtraBroken}
 use Rattle.stream.proofs.Runs.{answered}
 
-refuses : (s : State) (b : Buffers) (x : List ℕ) → 0 < broken x → 0 < answer_number (called s b x).result.answer
+refuses : (s : State) (b : Buffers) (x : List ℕ) → 0 < broken x → 0 < refused_number (called s b x).result.answer
 unfolding called
 refuses s b x h = rw (answered (input s b x) ∙ number_is (input s b x), ne_eqb (broken x) 0 (λ e. omega arith)) (go (state_holds (input s b x)))
   where

@@ -2,16 +2,14 @@
 -- demand 2, the others demand 3 (proofs/Readers.antt: no reader that keeps the promises is one of the former, and none that meets
 -- demand 3 one of the latter).
 -- Assumes nothing.
-use Rattle.std.specs.Prelude.{◌≡◌, List, ℕ, ◌<◌, ◌≤◌}
+use Rattle.std.specs.Prelude.{◌≡◌, List, ℕ, ◌<◌, ◌≤◌, None, Result, Ok}
 use Rattle.prelude.specs.Every.{Every}
+use Rattle.record.specs.Rules.{refused_number}
+use Rattle.record.specs.declared.refusal.Refusal.{Refusal}
 use Rattle.listing.specs.Lines.{frames_held}
-use Rattle.accumulation.specs.Accumulation.{unreported}
-use Rattle.state.specs.Deciding.{answer_number}
 use Rattle.state.specs.Soundness.{fresh}
 use Rattle.state.specs.declared.State.{State}
 use Rattle.accumulation.specs.declared.GapDecision.TheVariants.{Joins}
-use Rattle.state.specs.declared.deciding.Answer.{Answer}
-use Rattle.state.specs.declared.deciding.Answer.TheVariants.{Accepted}
 use Rattle.state.specs.declared.deciding.Taken.{Taken}
 use Rattle.reader.specs.Buffers.{Buffers}
 use Rattle.stream.specs.Running.{Call, Reader, trace_of, accumulations}
@@ -19,10 +17,10 @@ use Rattle.stream.specs.Demand.{cells_listed}
 
 -- "A reader that refuses everything"
 abbrev pub RefusesAll : Reader → Type 0
-RefusesAll R = (s : State) (b : Buffers) (r : List ℕ) → 0 < answer_number (R.steps s b r).result.answer
+RefusesAll R = (s : State) (b : Buffers) (r : List ℕ) → 0 < refused_number (R.steps s b r).result.answer
 
 -- "and one with a fixed answer"
-abbrev pub FixedAnswer : Reader → Answer → Type 0
+abbrev pub FixedAnswer : Reader → Result Taken Refusal → Type 0
 FixedAnswer R x = (s : State) (b : Buffers) (r : List ℕ) → (R.steps s b r).result.answer ≡ x
 
 -- "One that accepts and stores nothing": whatever it answers and reports, every buffer stays as found
@@ -40,15 +38,15 @@ next_call R b r x = R.steps (first_call R b r).result.state (first_call R b r).l
 -- "One that handles the first record and then only nods": once the first was accepted, what that call left stays, and the next
 -- closes nothing
 pub record Nods (R : Reader) : Type 0 where
-  pub state : (b : Buffers) (r x : List ℕ) → answer_number (first_call R b r).result.answer ≡ 0
+  pub state : (b : Buffers) (r x : List ℕ) → refused_number (first_call R b r).result.answer ≡ 0
       → (next_call R b r x).result.state ≡ (first_call R b r).result.state
-  pub left : (b : Buffers) (r x : List ℕ) → answer_number (first_call R b r).result.answer ≡ 0 → (next_call R b r x).left ≡ (first_call R b r).left
-  pub closes : (b : Buffers) (r x : List ℕ) → answer_number (first_call R b r).result.answer ≡ 0
-      → (next_call R b r x).result.closed.accumulation ≡ unreported
+  pub left : (b : Buffers) (r x : List ℕ) → refused_number (first_call R b r).result.answer ≡ 0 → (next_call R b r x).left ≡ (first_call R b r).left
+  pub closes : (b : Buffers) (r x : List ℕ) → refused_number (first_call R b r).result.answer ≡ 0
+      → (next_call R b r x).result.closed.accumulation ≡ None
 
 -- "One that never joins": by demand 2 it never says so, by demand 3 no accumulation that it hands out has two frames
 abbrev pub NeverSaysJoins : Reader → Type 0
-NeverSaysJoins R = (s : State) (b : Buffers) (r : List ℕ) (t : Taken) → (R.steps s b r).result.answer ≡ Accepted t → t.gap ≡ Joins → ⊥
+NeverSaysJoins R = (s : State) (b : Buffers) (r : List ℕ) (t : Taken) → (R.steps s b r).result.answer ≡ Ok t → t.gap ≡ Joins → ⊥
 
 abbrev pub NeverJoins : Reader → Type 0
 NeverJoins R = (b : Buffers) (rs : List (List ℕ)) → Every (λ a. frames_held a.report ≤ 1) (accumulations (trace_of R fresh b rs))

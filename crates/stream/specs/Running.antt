@@ -1,14 +1,14 @@
 -- A reader over a list of records: a step for each, then finish once (demand 3).
 -- Assumes nothing.
-use Rattle.std.specs.Prelude.{cond, List, [], ◌∷◌, ◌++◌, ℕ, ℤ}
-use Rattle.state.specs.Deciding.{decided_of, answer_number}
+use Rattle.std.specs.Prelude.{Option, Some, None, List, [], ◌∷◌, ◌++◌, ℕ, ℤ}
+use Rattle.record.specs.Rules.{refused_number}
+use Rattle.state.specs.Deciding.{decided_of}
 use Rattle.state.specs.Ending.{ended_of}
 use Rattle.state.specs.declared.State.{State}
 use Rattle.accumulation.specs.declared.AccumulationReport.{AccumulationReport}
 use Rattle.state.specs.declared.deciding.Stepped.{Stepped}
 use Rattle.state.specs.declared.ending.Finished.{Finished}
 use Rattle.major.specs.declared.Major.{Major}
-use Rattle.major.specs.declared.MajorReport.{MajorReport}
 use Rattle.snapshot.specs.declared.SnapshotReport.{SnapshotReport}
 use Rattle.state.specs.declared.closed.Closed.{Closed}
 use Rattle.reader.specs.Buffers.{Buffers, sized}
@@ -75,14 +75,17 @@ pub record ClosedSnapshot : Type 0 where
   pub report : SnapshotReport
   pub bytes : List ℕ
 
-abbrev pub handed_accumulation : AccumulationReport → List ℕ → List ClosedAccumulation
-handed_accumulation r c = cond r.closed (record { report = r; cells = c } ∷ []) []
+abbrev pub handed_accumulation : Option AccumulationReport → List ℕ → List ClosedAccumulation
+handed_accumulation None c = []
+handed_accumulation (Some r) c = record { report = r; cells = c } ∷ []
 
-abbrev pub handed_major : MajorReport → List ℤ → List ClosedMajor
-handed_major r s = cond r.closed (record { frame = r.frame; samples = s } ∷ []) []
+abbrev pub handed_major : Option Major → List ℤ → List ClosedMajor
+handed_major None s = []
+handed_major (Some m) s = record { frame = m; samples = s } ∷ []
 
-abbrev pub handed_snapshot : SnapshotReport → List ℕ → List ClosedSnapshot
-handed_snapshot r b = cond r.closed (record { report = r; bytes = b } ∷ []) []
+abbrev pub handed_snapshot : Option SnapshotReport → List ℕ → List ClosedSnapshot
+handed_snapshot None b = []
+handed_snapshot (Some r) b = record { report = r; bytes = b } ∷ []
 
 unfoldable pub accumulations : Trace → List ClosedAccumulation
 accumulations (step c t) = handed_accumulation c.result.closed.accumulation c.left.finished_cells ++ accumulations t
@@ -107,5 +110,5 @@ states (finish e) = e.result.state ∷ []
 
 -- the number of each step's answer
 unfoldable pub answers : Trace → List ℕ
-answers (step c t) = answer_number c.result.answer ∷ answers t
+answers (step c t) = refused_number c.result.answer ∷ answers t
 answers (finish e) = []

@@ -3,13 +3,11 @@
 use Rattle.std.specs.Prelude.{◌≡◌, Bool, true, cond, List, [], ◌∷◌, ℕ, ◌+◌, ◌-◌, ◌%◌, ◌<◌, ◌≤◌}
 use Rattle.prelude.specs.Every.{Every}
 use Rattle.bits.specs.Twelve.{Bytes}
-use Rattle.record.specs.Rules.{broken}
+use Rattle.record.specs.Rules.{broken, refused_number}
 use Rattle.record.specs.Contents.{record_of}
 use Rattle.clock.specs.Clock.{circle, full_counts, own_of, farthest}
 use Rattle.carriage.specs.Carriage.{types}
 use Rattle.record.specs.Frame.{is_real_time, carries_mag}
-use Rattle.state.specs.Deciding.{answer_number}
-use Rattle.state.specs.Ending.{ending_number}
 use Rattle.reader.specs.Buffers.{Buffers, sized}
 use Rattle.gathering.specs.Lists.{Neighbours, those}
 use Rattle.stream.specs.Running.{Trace, step, finish}
@@ -73,7 +71,7 @@ ExtraRefused [] t = Unit {0}
 ExtraRefused (kept r ∷ xs) (step c t) = ExtraRefused xs t
 ExtraRefused (kept r ∷ xs) (finish e) = ⊥
 ExtraRefused (removed r ∷ xs) t = ExtraRefused xs t
-ExtraRefused (extra x ∷ xs) (step c t) = (0 < answer_number c.result.answer) × ExtraRefused xs t
+ExtraRefused (extra x ∷ xs) (step c t) = (0 < refused_number c.result.answer) × ExtraRefused xs t
 ExtraRefused (extra x ∷ xs) (finish e) = ⊥
 
 -- an extra is refused, whatever it meets, where it fails one of rules 2 to 11 (`spoils` in proofs/Spoiling.antt)
@@ -85,9 +83,9 @@ ExtraBroken (extra x ∷ xs) = (0 < broken x) × ExtraBroken xs
 
 -- what was kept is accepted when it is fed, and finish is done
 unfoldable pub KeptAccepted : List Fate → Trace → Type 0
-KeptAccepted [] (finish e) = ending_number e.result.ending ≡ 0
+KeptAccepted [] (finish e) = refused_number e.result.ending ≡ 0
 KeptAccepted [] (step c t) = ⊥
-KeptAccepted (kept r ∷ xs) (step c t) = (answer_number c.result.answer ≡ 0) × KeptAccepted xs t
+KeptAccepted (kept r ∷ xs) (step c t) = (refused_number c.result.answer ≡ 0) × KeptAccepted xs t
 KeptAccepted (kept r ∷ xs) (finish e) = ⊥
 KeptAccepted (removed r ∷ xs) t = KeptAccepted xs t
 KeptAccepted (extra x ∷ xs) (step c t) = KeptAccepted xs t

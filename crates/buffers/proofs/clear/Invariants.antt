@@ -1,10 +1,7 @@
--- `buffers::clear`: the loop has cleared the first i; the rest is as found.
+-- `buffers::clear`: the loop has cleared the first of them; the rest is as found.
 -- Assumes nothing.
-use Rattle.std.proofs.Common.{◌≡◌, ◌≤◌, ◌-◌, ◌++◌, length, drop, replicate}
+use Rattle.std.proofs.Common.{◌≡◌, ◌++◌, drop, replicate}
 use Rattle.buffers.proofs.clear.Given as goal
 
-abbrev pub invariant-loop-i : goal.invariant-loop-i
-invariant-loop-i l = (l.i ≤ length l.initial.buffer) × (l.buffer ≡ replicate l.i 0 ++ drop l.i l.initial.buffer)
-
-abbrev pub decreases-loop-i : goal.decreases-loop-i
-decreases-loop-i l = length l.initial.buffer - l.i
+abbrev pub invariant-loop-x : goal.invariant-loop-x
+invariant-loop-x g l = l.x-items ≡ replicate l.x-index l.fn.zero ++ drop l.x-index l.fn.buffer

@@ -1,11 +1,8 @@
--- `buffers::read_block`: the loop has read the first k.
+-- `buffers::read_block`: the first k are read.
 -- Assumes nothing.
-use Rattle.std.proofs.Common.{◌≡◌, ◌+◌, ◌≤◌, ◌-◌, ◌++◌, length, get_or, drop}
-use Rattle.prelude.specs.Build.{build}
+use Rattle.std.proofs.Common.{◌≡◌, take, drop}
+use Rattle.std.proofs.Math.Seq.{paste}
 use Rattle.buffers.proofs.read_block.Given as goal
 
 abbrev pub invariant-loop-k : goal.invariant-loop-k
-invariant-loop-k l = (l.k ≤ 16) × (l.block ≡ build (λ j. get_or l.from (l.at + j) 0) l.k ++ drop l.k l.initial.block) × (length l.block ≡ 16)
-
-abbrev pub decreases-loop-k : goal.decreases-loop-k
-decreases-loop-k l = 16 - l.k
+invariant-loop-k g l = l.block ≡ paste l.initial.block 0 (take 16 (drop l.at l.from)) l.k

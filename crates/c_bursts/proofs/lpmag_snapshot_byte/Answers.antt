@@ -4,4 +4,4 @@ use Rattle.c_answers.proofs.Handing.{byte_told}
 use Rattle.c_bursts.proofs.lpmag_snapshot_byte.Goals as goal
 
 pub returns : goal.returns
-returns c = byte_told _ _ _ _ _ _ _ c.byte.ensures c.hand_byte.ensures
+returns c = byte_told _ _ _ _ _ _ _ c.byte.ensures c.hand.ensures

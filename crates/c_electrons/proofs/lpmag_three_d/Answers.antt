@@ -4,6 +4,4 @@ use Rattle.c_answers.proofs.Handing.{count_told}
 use Rattle.c_electrons.proofs.lpmag_three_d.Goals as goal
 
 pub returns : goal.returns
-returns c =
-    let a = c.args in
-    count_told _ _ a.low.now a.high.now _ _ _ c.three_d.ensures c.hand_count.ensures
+returns c = count_told _ _ _ _ _ _ _ c.three_d.ensures c.hand_count.ensures

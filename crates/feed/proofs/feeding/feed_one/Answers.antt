@@ -3,5 +3,5 @@
 use Rattle.feed.proofs.Turns.{one_is}
 use Rattle.feed.proofs.feeding.feed_one.Goals as goal
 
-pub returns : goal.returns
-returns c = one_is c.args.bytes.now c.args.at c.cut-r.ensures.content c.step-stepped.ensures c.rule_of.ensures
+pub returns-clause-is : goal.returns-clause-is
+returns-clause-is c = one_is c.args.bytes.now c.args.at c.cut-r.ensures.content c.step-stepped.ensures.is c.told.ensures

@@ -2,5 +2,5 @@
 use Rattle.listing.proofs.Digits.{found_none}
 use Rattle.listing.proofs.decimal.spell.Goals as goal
 
-pub loop-rest-init : goal.loop-rest-init
-loop-rest-init c = found_none c.args.n c.args.places.now c.requires
+pub loop-i-init : goal.loop-i-init
+loop-i-init c = found_none c.args.n c.args.places.now c.requires

@@ -12,11 +12,9 @@ one_more f i false all e h = rw (add-one i, sym e)
 
 pub loop-i-preserved : goal.loop-i-preserved
 unfolding slot_holds
-loop-i-preserved c = (
-  omega arith,
-  one_more (slot_holds c.args.m) c.loop-i.i c.slot_holds-all.result c.loop-i.all c.slot_holds-all.ensures c.loop-i.invariant.1,
-)
+loop-i-preserved c =
+    one_more (slot_holds c.args.m) c.loop-i.i c.slot_holds-all.result c.loop-i.all c.slot_holds-all.ensures c.loop-i.invariant
 
 pub returns : goal.returns
 unfolding slots_hold
-returns c = let e : c.loop-i.i ≡ 16 = omega arith in c.loop-i.invariant.1 ∙ ap (upto (slot_holds c.args.m)) e
+returns c = let e : c.loop-i.i ≡ 16 = omega arith in c.loop-i.invariant ∙ ap (upto (slot_holds c.args.m)) e

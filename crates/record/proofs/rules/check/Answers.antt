@@ -1,13 +1,16 @@
--- `record::rules::check`: rule 2 first, and then the number that the others gave.
+-- `record::rules::check`: rule 2 first, and then the others.
 -- Assumes nothing.
-use Rattle.record.proofs.Order.{wrong_size, all_hold_lem, one_fails}
+use Rattle.std.proofs.Common.{◌≡◌, arith}
+use Rattle.record.specs.Rules.{broken, verdict_of}
+use Rattle.record.proofs.Order.{wrong_size, verdict_is}
 use Rattle.record.proofs.rules.check.Goals as goal
 
-pub returns-then-r-ne-SIZE : goal.returns-then-r-ne-SIZE
-returns-then-r-ne-SIZE c = wrong_size c.args.r.now c.if-r-ne-SIZE.true
-
-pub returns-then-n-eq0 : goal.returns-then-n-eq0
-returns-then-n-eq0 c = all_hold_lem c.args.r.now c.broken_of-n.result c.broken_of-n.ensures c.if-n-eq0.true
+pub returns-in_err-sized : goal.returns-in_err-sized
+returns-in_err-sized c =
+    let e : c.from_residual.result ≡ verdict_of (broken c.args.r.now) = grind (arith, wrong_size) in
+    verdict_is c.args.r.now c.from_residual.result e
 
 pub returns : goal.returns
-returns c = one_fails c.args.r.now c.broken_of-n.result c.broken_of-n.ensures c.if-n-eq0.false
+returns c =
+    let e : c.check_sized.result ≡ verdict_of (broken c.args.r.now) = grind arith in
+    verdict_is c.args.r.now c.check_sized.result e

@@ -1,6 +1,7 @@
 -- `record::values::record_of`: each field is its column of the label.
 -- Assumes nothing.
-use Rattle.std.proofs.Common.{◌∙◌, arith}
+use Rattle.std.proofs.Common.{rules, ◌≡◌, ◌∙◌, arith, length}
+use Rattle.record.specs.Layout.{size}
 use Rattle.record.specs.Contents.{record_of}
 use Rattle.record.proofs.Columns.{word, first_is, second_is, third_is}
 use Rattle.record.proofs.Opened.{packet_word}
@@ -10,7 +11,8 @@ pub returns : goal.returns
 unfolding record_of
 returns c =
     let r = c.args.r.now in
-    let w = word r c.requires in
+    let k : length r ≡ size = search rules in
+    let w = word r k in
     rw (
       c.word24.ensures ∙ w 6 3 (omega arith),
       c.word16.ensures ∙ w 456 2 (omega arith),
@@ -21,6 +23,6 @@ returns c =
       third_is r,
       c.second_burst-second.ensures,
       c.kind_of-kind.ensures.is,
-      c.word16-2.ensures ∙ packet_word r c.requires 1 2 (omega arith),
-      c.reading_of-reading.ensures,
+      c.word16-2.ensures ∙ packet_word r k 1 2 (omega arith),
+      c.reading_of.ensures,
     )

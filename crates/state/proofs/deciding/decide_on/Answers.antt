@@ -1,46 +1,38 @@
--- `state::deciding::decide_on`: what each test that fails, and each that holds, says of the decision.
+-- `state::deciding::decide_on`: a record that no rule refuses is accepted, and any other is refused with its rule's number.
 -- Assumes nothing.
-use Rattle.std.proofs.Common.{sym, ap₂, ◌∙◌}
-use Rattle.record.proofs.Opened.{sized}
-use Rattle.record.proofs.Told.{fields_told, number_told}
-use Rattle.state.specs.Inner.Accepting.{decided_by}
-use Rattle.state.proofs.Decisions.{unsound, record_refused, record_decided, type_below, above_0}
+use Rattle.std.proofs.Common.{sym, refl, ◌∙◌}
+use Rattle.state.specs.Deciding.{Input, count_at, clock_holds}
+use Rattle.record.specs.Contents.{record_of}
+use Rattle.state.proofs.Facts.{ready}
+use Rattle.state.proofs.Decisions.{accepted_is, refused_is, decided_is, admitted_fields, not_admitted, type_below}
+use Rattle.state.proofs.Told.{all_pass, passed_size}
 use Rattle.state.proofs.deciding.decide_on.Goals as goal
-
-pub returns-then-not-sized : goal.returns-then-not-sized
-returns-then-not-sized c =
-    let a = c.args in
-    unsound a.state a.sized a.r.now _ (rw c.if-not-sized.true) c.refused.ensures
-
-pub returns-then-not-is_sound : goal.returns-then-not-is_sound
-returns-then-not-is_sound c =
-    let a = c.args in
-    unsound a.state a.sized a.r.now _ (rw (c.if-not-sized.false, sym c.if-not-is_sound.ensures))
-    c.refused-then-not-is_sound.ensures
 
 pub range_in-requires : goal.range_in-requires
 range_in-requires c =
-    let r = c.args.r.now in
-    sized r (fields_told r c.fields-contents.result c.fields-contents.ensures c.in-Fields.f c.in-Fields.is).0
-
-pub decide_by-requires : goal.decide_by-requires
-decide_by-requires c =
-    let r = c.args.r.now in
-    let t = fields_told r c.fields-contents.result c.fields-contents.ensures c.in-Fields.f c.in-Fields.is in
-    (sym c.if-not-is_sound.ensures, rw t.1 (type_below r))
-
-pub returns-in-Fields : goal.returns-in-Fields
-returns-in-Fields c =
     let a = c.args in
-    let t = fields_told a.r.now c.fields-contents.result c.fields-contents.ensures c.in-Fields.f c.in-Fields.is in
-    record_decided a.state a.sized a.r.now _
-    (rw (c.if-not-sized.false, sym c.if-not-is_sound.ensures))
-    t.0 (c.decide_by.ensures ∙ ap₂ (decided_by a.state) t.1 c.range_in.ensures)
+    let i : Input = record { state = a.state; sized = a.sized; bytes = a.r.now } in
+    passed_size i (all_pass i (admitted_fields i c.in-Ok.x (sym c.admit.ensures ∙ c.in-Ok.is)).0)
 
-pub returns-in-Refused : goal.returns-in-Refused
-returns-in-Refused c =
+pub accept-requires : goal.accept-requires
+unfolding clock_holds
+accept-requires c =
     let a = c.args in
-    let t = number_told a.r.now c.fields-contents.result c.fields-contents.ensures c.in-Refused.n c.in-Refused.is in
-    record_refused a.state a.sized a.r.now _
-    (rw (c.if-not-sized.false, sym c.if-not-is_sound.ensures))
-    _ (sym t.0) (above_0 t.1) c.refused-in-Refused.ensures
+    let i : Input = record { state = a.state; sized = a.sized; bytes = a.r.now } in
+    let t = admitted_fields i c.in-Ok.x (sym c.admit.ensures ∙ c.in-Ok.is) in
+    let p = all_pass i t.0 in
+    rw t.1 (ready a.state (record_of a.r.now) (count_at i) p.sound p.later refl (type_below a.r.now))
+
+pub returns-in-Ok : goal.returns-in-Ok
+returns-in-Ok c =
+    let a = c.args in
+    let i : Input = record { state = a.state; sized = a.sized; bytes = a.r.now } in
+    let t = admitted_fields i c.in-Ok.x (sym c.admit.ensures ∙ c.in-Ok.is) in
+    decided_is i _ (c.accept.ensures ∙ rw (t.1, c.range_in.ensures) (sym (accepted_is i t.0)))
+
+pub returns-in-Err : goal.returns-in-Err
+returns-in-Err c =
+    let a = c.args in
+    let i : Input = record { state = a.state; sized = a.sized; bytes = a.r.now } in
+    let t = not_admitted i c.in-Err.refusal (sym c.admit.ensures ∙ c.in-Err.is) in
+    decided_is i _ (c.refused.ensures ∙ rw t.1 (sym (refused_is i t.0)))
