@@ -14,7 +14,7 @@ use record::Record;
 const HEADER: &str =
     "record answer count day millisecond flags code type kind second subcom level quality\n";
 
-const HELP: &str = "fields [FILE]...
+const HELP: &[u8] = b"fields [FILE]...
 
 Prints a line for each record of 472 bytes of Lunar Prospector's merged file: its
 number, from 0 on, and either `passes` and its fields, or `refused` and the number
@@ -62,7 +62,10 @@ fn run(program: Program) -> Result<(), Status> {
 pub fn perform(rt: &HostRuntime) -> Status
     ensures { number result ≤ 2 }
 {
-    match run(Program { rt, name: "fields" }) {
+    match run(Program {
+        rt,
+        name: b"fields",
+    }) {
         Ok(()) => Status::Done,
         Err(status) => status,
     }

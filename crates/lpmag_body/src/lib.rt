@@ -17,7 +17,7 @@ use page::Page;
 use programs::{Failed, Options, Program, Source, Status};
 use reader::Lent;
 
-const HELP: &str = "lpmag [-v] [FILE]...
+const HELP: &[u8] = b"lpmag [-v] [FILE]...
 
 Reads records of 472 bytes of Lunar Prospector's merged file, each a 2-second
 frame, and lists what the MAG/ER packets in them make up. The input is the files
@@ -91,7 +91,7 @@ fn run(program: Program) -> Result<(), Status> {
 pub fn perform(rt: &HostRuntime) -> Status
     ensures { number result ≤ 2 }
 {
-    match run(Program { rt, name: "lpmag" }) {
+    match run(Program { rt, name: b"lpmag" }) {
         Ok(()) => Status::Done,
         Err(status) => status,
     }

@@ -1,5 +1,6 @@
 // A program's input: standard input, or the files named, their bytes laid end to end.
-ghost use Rattle.std.specs.Prelude.{◌≤◌, length};
+ghost use Rattle.std.specs.Prelude.{◌≡◌, ◌≤◌, length};
+ghost use Rattle.programs.specs.Input.{first_place, goes_on, all_read};
 
 use crate::options::{WORD, is_file};
 use crate::{Failed, Program};
@@ -33,7 +34,9 @@ pub struct Source<'a> {
 
 impl<'a> Source<'a> {
     // `from_files` is a flag, as `Options::files` is: it says only at which of two places the source begins.
-    pub fn new(program: Program<'a>, from_files: bool) -> Self {
+    pub fn new(program: Program<'a>, from_files: bool) -> Self
+        ensures { result.place ≡ first_place from_files }
+    {
         let place = if from_files {
             Place::Argument(1)
         } else {
@@ -43,12 +46,18 @@ impl<'a> Source<'a> {
     }
 
     // Is there a byte, or a file, still to come?
-    pub fn goes_on(&self) -> bool {
+    #[tactic(auto, unfolding(crate::specs::Input::goes_on))]
+    pub fn goes_on(&self) -> bool
+        ensures { result ≡ goes_on self.now.place }
+    {
         !matches!(self.place, Place::Ended(_))
     }
 
     // Could all be read so far?
-    pub fn all_read(&self) -> Result<(), Failed> {
+    #[tactic(auto, unfolding(crate::specs::Input::all_read))]
+    pub fn all_read(&self) -> Result<(), Failed>
+        ensures { result ≡ all_read self.now.place }
+    {
         match self.place {
             Place::Ended(ended) => ended,
             _ => Ok(()),
@@ -56,13 +65,13 @@ impl<'a> Source<'a> {
     }
 
     // What can't be read ends the input; what came before it stays.
-    fn fail(&mut self, name: &[u8], what: &str, error: Error) {
+    fn fail(&mut self, name: &[u8], what: &[u8], error: Error) {
         self.program.complain(name, what, error);
         self.place = Place::Ended(Err(Failed));
     }
 
     fn fail_reading(&mut self, error: Error) {
-        let what = " could not be read, and the input ends there";
+        let what = b" could not be read, and the input ends there";
         match self.place {
             Place::File { argument, .. } => {
                 let mut room = [0u8; WORD];
@@ -82,7 +91,7 @@ impl<'a> Source<'a> {
             Err(FillError::NotPresent) => self.place = Place::Ended(Ok(())),
             Err(FillError::TooLong) => self.fail(
                 b"an argument",
-                " is too long for a name, and the input ends there",
+                b" is too long for a name, and the input ends there",
                 Error::from_raw_os_error(NAME_TOO_LONG),
             ),
         }
@@ -93,7 +102,7 @@ impl<'a> Source<'a> {
             Ok(file) => self.place = Place::File { argument, file },
             Err(error) => self.fail(
                 name,
-                " could not be opened, and the input ends there",
+                b" could not be opened, and the input ends there",
                 error,
             ),
         }

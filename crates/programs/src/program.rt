@@ -11,7 +11,7 @@ const LINE: usize = 4352;
 const TEXT: usize = 256;
 
 // What holds of all programs, for their help.
-const MANNERS: &str = "  -h   prints this
+const MANNERS: &[u8] = b"  -h   prints this
 
 A file that can't be opened or read ends the input there, and is named on standard
 error; what comes before it is read whole. A rest below a record's size at the end
@@ -20,11 +20,11 @@ of the input is one record. A file whose name begins with - is named as ./-NAME.
 The status is 0, 1 if not all could be read or written, 2 for an unknown option.
 ";
 
-// The system, and the program's name, with which all that it says begins.
+// The system, and the program's name, with which all that it says begins: bytes, as names of files are.
 #[derive(Clone, Copy)]
 pub struct Program<'a> {
     pub rt: &'a HostRuntime,
-    pub name: &'a str,
+    pub name: &'a [u8],
 }
 
 // The system's own words for an error, without the number that std sets behind them.
@@ -41,14 +41,15 @@ impl Program<'_> {
     pub fn begin<const N: usize>(
         &self,
         letters: &[u8; N],
-        help: &str,
+        help: &[u8],
     ) -> Result<Options<N>, Status> {
         let options = Options::read(self, letters);
         if options.wrong {
             return Err(Status::WrongUse);
         }
         if options.help {
-            self.print(format_args!("{help}{MANNERS}"))?;
+            self.write(help)?;
+            self.write(MANNERS)?;
             return Err(Status::Done);
         }
         Ok(options)
@@ -67,31 +68,37 @@ impl Program<'_> {
     }
 
     fn unwritten(&self, error: Error) -> Failed {
-        self.complain(b"standard output", " could not be written", error);
+        self.complain(b"standard output", b" could not be written", error);
         Failed
     }
 
     // A name, which may be no text, what happened to it, and the error's text.
-    pub(crate) fn complain(&self, name: &[u8], what: &str, error: Error) {
+    pub(crate) fn complain(&self, name: &[u8], what: &[u8], error: Error) {
         let mut text = ArrayString::<TEXT>::new();
         let _ = write!(text, "{error}");
         let why = words(text.as_str());
-        self.say("", name, format_args!("{what}: {why}"));
+        self.say(&[name, what, b": ", why.as_bytes()]);
     }
 
     pub(crate) fn unknown(&self, option: &[u8]) {
-        let program = self.name;
-        let after = format_args!("; {program} -h explains");
-        self.say("unknown option ", option, after);
+        self.say(&[
+            b"unknown option ",
+            option,
+            b"; ",
+            self.name,
+            b" -h explains",
+        ]);
     }
 
     // A line on standard error, put together first, so that it is written at once. Where it can't be written there is nobody to tell.
-    fn say<D: Display + Drop>(&self, before: &str, name: &[u8], after: D) {
-        let program = self.name;
+    fn say(&self, parts: &[&[u8]]) {
         let mut line = ArrayVec::<u8, LINE>::new();
-        let _ = write!(line, "{program}: {before}");
-        let _ = line.write_all(name);
-        let _ = writeln!(line, "{after}");
+        let _ = line.write_all(self.name);
+        let _ = line.write_all(b": ");
+        for part in parts {
+            let _ = line.write_all(part);
+        }
+        let _ = line.write_all(b"\n");
         let _ = self.rt.stderr().write_all(line.as_slice());
     }
 }

@@ -29,6 +29,9 @@ impl From<Status> for ExitCode {
 pub struct Failed;
 
 impl From<Failed> for Status {
+    ghost from_gives = { λ failed status. number status ≡ 1 };
+
+    #[tactic(auto, unfolding(crate::specs::Status::number))]
     fn from(_failed: Failed) -> Status {
         Status::Failed
     }

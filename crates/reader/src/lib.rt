@@ -9,5 +9,5 @@ mod samples_part;
 mod snapshot_part;
 mod steps;
 
-pub use lent::Lent;
+pub use lent::{Lent, right_sizes};
 pub use steps::{finish, step};

@@ -1,4 +1,4 @@
--- The open snapshot's bytes are copied to a finished buffer just when a snapshot is reported as closed.
+-- The open snapshot's bytes are copied to a finished buffer just when a snapshot is reported as closed; of what isn't closed nothing is reported.
 -- Assumes nothing.
 use mathlib.Core.Path.{◌≡◌, refl, sym, ◌∙◌}
 use mathlib.Core.Bool.{Bool, true, false, cond, not, ◌&&◌, ◌||◌, true≢false}
@@ -64,6 +64,12 @@ pub record SnapshotsClose (one two : PacketWork) (first second : Option Snapshot
   pub second_closed : is_some second ≡ (one.work.copies && two.work.copies)
   pub one_cleared : one.work.copies ≡ true → one.work.clears ≡ true
   pub two_cleared : two.work.copies ≡ true → two.work.clears ≡ true
+  pub no_first : is_some first ≡ false → first ≡ None
+  pub no_second : is_some second ≡ false → second ≡ None
+
+nothing : (r : Option SnapshotReport) → is_some r ≡ false → r ≡ None
+nothing None e = refl
+nothing (Some r) e = absurd (true≢false e)
 
 either : (p q : Option SnapshotReport) → is_some (option_or p q) ≡ (is_some p || is_some q)
 either None q = refl
@@ -82,6 +88,8 @@ both_close x y p q = record {
   second_closed = rw (p.copied, q.copied) (both x.report y.report);
   one_cleared = λ k. p.cleared (sym p.copied ∙ k);
   two_cleared = λ k. q.cleared (sym q.copied ∙ k);
+  no_first = nothing (together x y).first;
+  no_second = nothing (together x y).second;
 }
 
 pub step_closes : (c : Clock) (s : Snapshot) (d one two : ℕ)
@@ -99,6 +107,8 @@ no_snapshots = record {
   second_closed = refl;
   one_cleared = λ e. absurd (true≢false (sym e));
   two_cleared = λ e. absurd (true≢false (sym e));
+  no_first = λ e. refl;
+  no_second = λ e. refl;
 }
 
 -- finish closes the open one, into the first
@@ -107,5 +117,12 @@ end_closes s = go (is_open s)
   where
     go : (t : Bool) → SnapshotsClose (packet_work (closing_work t) 0) (packet_work no_work 0)
         (cond t (Some (record { first = s.first; held = s.held })) None) None
-    go true = record { first_closed = refl; second_closed = refl; one_cleared = λ e. e; two_cleared = λ e. absurd (true≢false (sym e)) }
+    go true = record {
+      first_closed = refl;
+      second_closed = refl;
+      one_cleared = λ e. e;
+      two_cleared = λ e. absurd (true≢false (sym e));
+      no_first = λ e. absurd (true≢false e);
+      no_second = λ e. refl;
+    }
     go false = no_snapshots
